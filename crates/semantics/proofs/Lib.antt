@@ -1,2 +1,12 @@
 pub mod Run
 pub mod Cases
+pub mod Order
+pub mod All
+pub mod Regular
+pub mod RegularUnify
+pub mod RegularWalk
+pub mod Causes
+pub mod Fuel
+pub mod Named
+pub mod Split
+pub mod Reader

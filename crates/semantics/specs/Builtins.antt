@@ -18,25 +18,29 @@ pub data ReturnShape : Type 0 where
   listElement listSelf : ReturnShape
 
 -- `Builtin`, without its documentation
-pub record Builtin : Type 0 where
+pub record Signature : Type 0 where
   pub name : Bytes
   pub params : List ArgShape
   pub ret : ReturnShape
 
-abbrev pub builtin : String → ArgShape → ReturnShape → Builtin
-builtin s p r = record { name = text s; params = p ∷ []; ret = r }
+abbrev pub taking : String → ArgShape → ReturnShape → Signature
+taking s p r = record { name = text s; params = p ∷ []; ret = r }
 
--- `BUILTINS`
-unfoldable pub builtins : List Builtin
-builtins =
-    builtin "id" sGraphEntity (fixed (base tInt))
-    ∷ builtin "size" sListOrString (fixed (base tInt))
-    ∷ builtin "head" sList listElement
-    ∷ builtin "tail" sList listSelf
-    ∷ builtin "last" sList listElement
-    ∷ builtin "keys" sGraphEntityOrMap (fixed (tList (base tString)))
-    ∷ builtin "values" sMap (fixed (tList (base tAny)))
-    ∷ []
+-- `BUILTINS`: a row for each function
+pub data Builtin : Type 0 where
+  ID SIZE HEAD TAIL LAST KEYS VALUES : Builtin
+
+unfoldable pub signature : Builtin → Signature
+signature ID = taking "id" sGraphEntity (fixed (base tInt))
+signature SIZE = taking "size" sListOrString (fixed (base tInt))
+signature HEAD = taking "head" sList listElement
+signature TAIL = taking "tail" sList listSelf
+signature LAST = taking "last" sList listElement
+signature KEYS = taking "keys" sGraphEntityOrMap (fixed (tList (base tString)))
+signature VALUES = taking "values" sMap (fixed (tList (base tAny)))
+
+abbrev pub builtins : List Builtin
+builtins = ID ∷ SIZE ∷ HEAD ∷ TAIL ∷ LAST ∷ KEYS ∷ VALUES ∷ []
 
 -- `lookup`: the first of this name, ignoring ASCII case; the table's names are lower-case
 abbrev pub lower : ℕ → ℕ
@@ -48,7 +52,7 @@ folded n = map lower (unpaired n)
 
 unfoldable pub lookupIn : Bytes → List Builtin → Option Builtin
 lookupIn s [] = none
-lookupIn s (b ∷ bs) = elim (same s (b .name)) [ true ↦ some b | false ↦ lookupIn s bs ]
+lookupIn s (b ∷ bs) = elim (same s (signature b .name)) [ true ↦ some b | false ↦ lookupIn s bs ]
 
 unfoldable pub lookup : Bytes → Option Builtin
 lookup n = lookupIn (folded n) builtins

@@ -9,7 +9,7 @@ use Rattle.semantics.specs.Limits.{sheetLimit, workSize, unifyOutput}
 use Rattle.semantics.specs.Bytes.{Bytes, text, unlines, shown}
 use Rattle.semantics.specs.Ty.{Base, tAny, tNull, tBool, tInt, tFloat, tNum, tString, tDate, tDatetime, tPath, tUnknown, Ty, base, tList, tMap, tNode, tRelationship, tUnion, line, tooLarge, typeLine}
 use Rattle.semantics.specs.Unify.{Answer, agreed, mismatch, Unified, unify}
-use Rattle.semantics.specs.Builtins.{describe}
+use Rattle.semantics.specs.Builtins.{signature, describe}
 use Rattle.semantics.specs.Sheet.{Head, Sheet, refused, heads, sheet}
 use Rattle.semantics.specs.Walk.{Fault, E2009, E2010, E2011, E2012, E2013, E5012, Top, Res, results, allTests, typing}
 
@@ -43,7 +43,7 @@ faultText (E2010 t) = text "2010," ++ typeName t
 faultText (E2011 t) = text "2011," ++ typeName t
 faultText (E2012 a e) = text "2012," ++ (typeName a ++ (44 ∷ typeName e))
 faultText (E2013 t) = text "2013," ++ typeName t
-faultText (E5012 b t p) = text "5012," ++ (b .name ++ (44 ∷ (typeName t ++ (44 ∷ describe p))))
+faultText (E5012 b t p) = text "5012," ++ (signature b .name ++ (44 ∷ (typeName t ++ (44 ∷ describe p))))
 
 unfoldable pub faultLine : Fault → Bytes
 faultLine f = 70 ∷ 44 ∷ faultText f

@@ -328,25 +328,24 @@ beyond clauses h = ok h
 beyond (bindings v) h = elim (eqb (rank (place h)) 1 && ltb (variableOf h) v) [ true ↦ bad 3 | false ↦ ok h ]
 beyond (at q d) h = elim (eqb (rank q) 13 && ltb depthLimit d) [ true ↦ bad 5 | false ↦ ok h ]
 
-unfoldable pub readFields : Want → Word → List Bytes → Read
-readFields w v fs =
-    elim (fits w (rank (row v .place)) && eqb (length fs) (length (row v .fields))) [ true ↦ then (fill (bare v) (row v .fields) fs) | false ↦ bad 3 ]
-  where
-    then : Read → Read
-    then (bad c) = bad c
-    then (ok h) = beyond w h
+abbrev pub andThen : Read → (Head → Read) → Read
+andThen (bad c) f = bad c
+andThen (ok h) f = f h
 
 -- word allowed here and field count, then the fields, then what is beyond them
-unfoldable pub readLine : Want → Bytes → Read
-readLine w l = spell (split 44 l)
-  where
-    found : List Bytes → Option Word → Read
-    found fs none = bad 3
-    found fs (some v) = readFields w v fs
+unfoldable pub readFields : Want → Word → List Bytes → Read
+readFields w v fs = elim (fits w (rank (row v .place)) && eqb (length fs) (length (row v .fields))) [ true ↦ andThen (fill (bare v) (row v .fields) fs) (beyond w) | false ↦ bad 3 ]
 
-    spell : List Bytes → Read
-    spell [] = bad 3
-    spell (x ∷ fs) = found fs (wordIn x words)
+abbrev pub readAs : Want → Option Word → List Bytes → Read
+readAs w none fs = bad 3
+readAs w (some v) fs = readFields w v fs
+
+unfoldable pub readPieces : Want → List Bytes → Read
+readPieces w [] = bad 3
+readPieces w (x ∷ fs) = readAs w (wordIn x words) fs
+
+unfoldable pub readLine : Want → Bytes → Read
+readLine w l = readPieces w (split 44 l)
 
 -- ## A sheet
 

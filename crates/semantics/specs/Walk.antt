@@ -8,7 +8,7 @@ use lib.Dec.{eqb, ltb}
 use Rattle.semantics.specs.Bytes.{Bytes, text}
 use Rattle.semantics.specs.Ty.{Base, tAny, tNull, tBool, tInt, tFloat, tNum, tString, tPath, tUnknown, Ty, base, tList, tMap, tNode, tRelationship, tUnion, Fields, ∅ᶠ, among, matches, unite, firsts, setField}
 use Rattle.semantics.specs.Unify.{Answer, agreed, mismatch, Unified, unify}
-use Rattle.semantics.specs.Builtins.{ArgShape, Builtin, lookup, accepts, elementOf, listOr, resolveReturn}
+use Rattle.semantics.specs.Builtins.{ArgShape, Builtin, signature, lookup, accepts, elementOf, listOr, resolveReturn}
 use Rattle.semantics.specs.Sheet.{Head, num, Role, plain, condition, answer, inner, Typing, constant, varType, element, slice, listing, mapping, calling, operator, unary, casing, membership, comprehension, Rule, silent, entering, typed, rule, rank, place, roles, arity}
 
 -- the six faults, by their codes
@@ -160,11 +160,11 @@ argFaults b (p ∷ ps) (t ∷ ts) = elim (accepts p t) [ true ↦ argFaults b ps
 
 unfoldable pub callType : Option Builtin → List Ty → Ty
 callType none ts = base tAny
-callType (some b) ts = resolveReturn (b .ret) ts
+callType (some b) ts = resolveReturn (signature b .ret) ts
 
 unfoldable pub callFaults : Option Builtin → List Ty → List Fault
 callFaults none ts = []
-callFaults (some b) ts = argFaults b (b .params) ts
+callFaults (some b) ts = argFaults b (signature b .params) ts
 
 -- ## Lists, maps, CASE
 
@@ -269,6 +269,12 @@ tops [] rs = []
 tops (p ∷ ps) [] = []
 tops (p ∷ ps) (r ∷ rs) = topsOf p r ++ tops ps rs
 
+-- a pattern or a clause passes them on; of an expression nobody asks them
+unfoldable pub topsBy : Rule → List Role → List Res → List Top
+topsBy silent ps rs = tops ps rs
+topsBy entering ps rs = []
+topsBy (typed k) ps rs = []
+
 -- ## The tests of a line
 
 -- what a line keeps from child to child: nothing, the running element of a list literal, the fields of a map literal
@@ -369,7 +375,7 @@ step env n h rs =
       name = label q (h .name);
       ty = t;
       faults = spread ps rs ++ own q h es;
-      tops = tops ps rs;
+      tops = topsBy q ps rs;
       tests = through n q no-part rs ++ on n (lastTests q h ps es t);
     }
 
@@ -383,9 +389,13 @@ unfoldable pub binds : Option ℕ → ℕ → List (ℕ × ℕ) → List (ℕ ×
 binds none k bs = bs
 binds (some v) k bs = (v, k) ∷ bs
 
+-- by the place of a line: the first line, a `b` line, any other
+unfoldable pub boundBy : ℕ → Option ℕ → ℕ → List (ℕ × ℕ) → List (ℕ × ℕ)
+boundBy p v k bs = elim (eqb p 0) [ true ↦ bs | false ↦ elim (eqb p 1) [ true ↦ binds v k bs | false ↦ [] ] ]
+
 unfoldable pub bound : List Head → List (ℕ × ℕ)
 bound [] = []
-bound (h ∷ hs) = let p = rank (place h) in elim (eqb p 0) [ true ↦ bound hs | false ↦ elim (eqb p 1) [ true ↦ binds (h .var) (num h 0) (bound hs) | false ↦ [] ] ]
+bound (h ∷ hs) = boundBy (rank (place h)) (h .var) (num h 0) (bound hs)
 
 abbrev pub envOf : List Head → Env
 envOf hs = record { bindings = bound hs }

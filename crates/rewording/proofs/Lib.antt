@@ -1,0 +1,9 @@
+pub mod Congruence
+pub mod Unread
+pub mod Renumber
+pub mod Operands
+pub mod Exchanges
+pub mod Lines
+pub mod Unions
+pub mod Theorem
+pub mod Examples
