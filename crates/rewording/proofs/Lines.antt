@@ -2,7 +2,7 @@
 use mathlib.Core.Path.{_≡_, refl, sym, _∙_, ap, ap₂}
 use mathlib.Core.List.{List, [], _∷_, _++_, map as mapL, append-nil}
 use mathlib.Core.Option.{Option, none, some}
-use mathlib.Core.Bool.{Bool, true, false, cond, _&&_}
+use mathlib.Core.Bool.{Bool, true, false, cond, _&&_, and-eq-true-iff}
 use Prim.Native.Nat.{ℕ, suc, zero, _+_, _/_, _%_, _<_, _≤_}
 use native.Mathlib.Omega.{arith}
 use lib.ListN.{length}
@@ -13,7 +13,7 @@ use Rattle.semantics.specs.Ty.{Base, tAny, tNull, tBool, tInt, tFloat, tNum, tS
 use Rattle.semantics.specs.Builtins.{ArgShape, sAny, sList, sString, sListOrString, sGraphEntity, sMap, sGraphEntityOrMap, Builtin, ID, SIZE, HEAD, TAIL, LAST, KEYS, VALUES, signature, describe}
 use Rattle.semantics.specs.Walk.{Fault, E2009, E2010, E2011, E2012, E2013, E5012, Top}
 use Rattle.semantics.specs.Calls.{typeName, faultText, faultLine, topLine, faultCount, endLine, topLines, reportLines, report}
-use Rattle.semantics.proofs.Split.{hex-low}
+use Rattle.semantics.proofs.Order.{hex-low}
 use Rattle.semantics.proofs.All.{All, empty, also, all-append, either}
 use Rattle.rewording.specs.Reword.{pieces, begins, typeLines, into-first, faultGroups, lastLine, occurrences, EachAsOften, Each, no-more, more, Agree}
 use Rattle.rewording.proofs.Congruence.{countIf, Same, TopLike, each-append, each-length}
@@ -27,14 +27,6 @@ clean (c ∷ cs) = ltb 10 c && clean cs
 abbrev Clean : Bytes → Type 0
 Clean l = clean l ≡ true
 
-and-first : (a b : Bool) → (a && b) ≡ true → a ≡ true
-and-first true b e = refl
-and-first false b e = e
-
-and-second : (a b : Bool) → (a && b) ≡ true → b ≡ true
-and-second true b e = e
-and-second false b e = absurd (let z : _≡_ {A = ℕ} (cond false 1 0) (cond true 1 0) = ap (λ (x : Bool). cond x 1 0) e in omega arith)
-
 clean-cons : (c : ℕ) (cs : Bytes) → 10 < c → Clean cs → Clean (c ∷ cs)
 unfolding clean
 clean-cons c cs h e = rw (lt-ltb 10 c h, e)
@@ -42,7 +34,7 @@ clean-cons c cs h e = rw (lt-ltb 10 c h, e)
 clean-append : (a b : Bytes) → Clean a → Clean b → Clean (a ++ b)
 unfolding clean
 clean-append [] b p q = q
-clean-append (c ∷ a) b p q = clean-cons c (a ++ b) (ltb-true 10 c (and-first (ltb 10 c) (clean a) p)) (clean-append a b (and-second (ltb 10 c) (clean a) p) q)
+clean-append (c ∷ a) b p q = clean-cons c (a ++ b) (ltb-true 10 c (and-eq-true-iff (ltb 10 c) (clean a) .0 p .0)) (clean-append a b (and-eq-true-iff (ltb 10 c) (clean a) .0 p .1) q)
 
 name-clean : (t : Ty) → Clean (typeName t)
 unfolding clean typeName text
@@ -150,7 +142,7 @@ end-clean ts = clean-append (shown (length ts)) (44 ∷ shown (faultCount ts)) (
 
 split-clean : (l r : Bytes) → Clean l → split 10 (l ++ (10 ∷ r)) ≡ l ∷ split 10 r
 split-clean [] r e = unfold split in refl
-split-clean (c ∷ l) r e = go (unfold clean in (and-first (ltb 10 c) (clean l) e)) (split-clean l r (unfold clean in (and-second (ltb 10 c) (clean l) e)))
+split-clean (c ∷ l) r e = go (unfold clean in (and-eq-true-iff (ltb 10 c) (clean l) .0 e .0)) (split-clean l r (unfold clean in (and-eq-true-iff (ltb 10 c) (clean l) .0 e .1)))
   where
     go : ltb 10 c ≡ true → split 10 (l ++ (10 ∷ r)) ≡ l ∷ split 10 r → split 10 (c ∷ (l ++ (10 ∷ r))) ≡ (c ∷ l) ∷ split 10 r
     go h ih = unfold split front in (let n : 10 < c = ltb-true 10 c h in rw (ne-eqb c 10 (λ p. omega arith), split, ih))

@@ -158,7 +158,7 @@ base-letter b = elim b [ tAny ↦ refl | tNull ↦ refl | tBool ↦ refl | tInt 
 pub letter-inj : (b c : Base) → letter b ≡ letter c → b ≡ c
 letter-inj b c p = Option·some-injective b c (sym (base-letter b) ∙ ap (λ n. baseIn n bases) p ∙ base-letter c)
 
-hex-low : (d : ℕ) → 48 ≤ hex d
+pub hex-low : (d : ℕ) → 48 ≤ hex d
 unfolding hex
 hex-low d = go (ltb d 10)
   where

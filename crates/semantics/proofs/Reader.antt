@@ -13,7 +13,8 @@ use Rattle.semantics.specs.Limits.{nameLimit}
 use Rattle.semantics.specs.Bytes.{Bytes, lex, same, split, digit?, hex, unhex}
 use Rattle.semantics.specs.Ty.{Base, tAny, tNull, tBool, tInt, tFloat, tNum, tString, tDate, tDatetime, tPath, tUnknown, Ty, base, tList, tMap, tNode, tRelationship, tUnion, Tys, ∅, _⊕_, Fields, ∅ᶠ, field, letter, line, tooLarge, regular, nameOf, readName, Front, onward, closing?, readNameIn, readNames, readOption, baseIn, bases, readBase, readBy, readType, readEntries, readMembers, strict, typeLine}
 use Rattle.semantics.proofs.Named.{Digits, Name, Names, Maybe, Named, NamedS, NamedF}
-use Rattle.semantics.proofs.Split.{split-inj, closing, opening, nameF, namesF, optionF, inside, membersF, entriesF, typeF, hex-low, split-line}
+use Rattle.semantics.proofs.Split.{split-inj, closing, opening, nameF, namesF, optionF, inside, membersF, entriesF, typeF, split-line}
+use Rattle.semantics.proofs.Order.{same-eq, hex-low}
 
 -- a fact of what there may be
 maybe : {A : Type 0} {P Q : A → Type 0} → ((a : A) → P a → Q a) → (o : Option A) → Maybe P o → Maybe Q o
@@ -95,18 +96,6 @@ name-sound f = go (unhex f) (unhex-sound f)
 
 -- ## Marks: a field that is not a name
 
-pub same-eq : (a b : Bytes) → same a b ≡ true → a ≡ b
-unfolding same lex
-same-eq [] [] e = refl
-same-eq [] (y ∷ b) e = absurd (false≢true e)
-same-eq (x ∷ a) [] e = absurd (false≢true e)
-same-eq (x ∷ a) (y ∷ b) e = go (same-eq a b) (compare x y) refl e
-  where
-    go : (same a b ≡ true → a ≡ b) → (o : Ordering) → compare x y ≡ o → isEq (elim o [ Ordering·lt ↦ Ordering·lt | Ordering·eq ↦ lex a b | Ordering·gt ↦ Ordering·gt ]) ≡ true → x ∷ a ≡ y ∷ b
-    go ih Ordering·lt c e = absurd (false≢true e)
-    go ih Ordering·eq c e = ap₂ (λ (k : ℕ) (m : Bytes). k ∷ m) (eqb-true x y (ap isEq c)) (ih e)
-    go ih Ordering·gt c e = absurd (false≢true e)
-
 closing-mark : closing? closing ≡ true
 unfolding same lex
 closing-mark = refl
@@ -117,7 +106,7 @@ name-no-mark [] = refl
 name-no-mark (d ∷ n) = go (closing? (nameF (d ∷ n))) refl
   where
     go : (b : Bool) → closing? (nameF (d ∷ n)) ≡ b → b ≡ false
-    go true e = let p = same-eq (nameF (d ∷ n)) closing e in let q : hex d ≡ 33 = cc in absurd (omega (arith, hex-low d))
+    go true e = let p = same-eq {a = nameF (d ∷ n)} {b = closing} e in let q : hex d ≡ 33 = cc in absurd (omega (arith, hex-low d))
     go false e = refl
 
 opening-no-mark : (t : Ty) → closing? (opening t) ≡ false
@@ -257,7 +246,7 @@ names-sound (f ∷ fs) = go (closing? f) refl (readName f) refl (name-sound f) r
   where
     go : (b : Bool) → closing? f ≡ b → (o : Option Bytes) → readName f ≡ o → Maybe (λ n. (nameF n ≡ f) × Name n) o
         → {m : Front (List Bytes)} → readNames fs ≡ m → Reads namesF Names fs m → Reads namesF Names (f ∷ fs) (readNames (f ∷ fs))
-    go true e o p w q v = rw (e, readNames) (reads (cons (sym (same-eq f closing e)) refl) tt)
+    go true e o p w q v = rw (e, readNames) (reads (cons (sym (same-eq {a = f} {b = closing} e)) refl) tt)
     go false e none p w q v = rw (e, p, readNames) nothing
     go false e (some n) p w q nothing = rw (e, p, q, readNames) nothing
     go false e (some n) p w q (reads {a} {r} x h) = rw (e, p, q, readNames) (reads {a = n ∷ a} {r = r} (cons (w .0) x) (w .1, h))
@@ -269,8 +258,8 @@ option-sound write P read h [] = nothing
 option-sound write P read h (f ∷ fs) = go (closing? f) refl (same f (43 ∷ [])) refl
   where
     go : (b : Bool) → closing? f ≡ b → (c : Bool) → same f (43 ∷ []) ≡ c → Reads (optionF write) (Maybe P) (f ∷ fs) (readOption read (f ∷ fs))
-    go true e c d = rw (e, readOption) (reads (cons (sym (same-eq f closing e)) refl) tt)
-    go false e true d = rw (e, d, readOption) (onward-sound (h fs) (λ a r x p. reads (cons (sym (same-eq f (43 ∷ []) d)) x) p))
+    go true e c d = rw (e, readOption) (reads (cons (sym (same-eq {a = f} {b = closing} e)) refl) tt)
+    go false e true d = rw (e, d, readOption) (onward-sound (h fs) (λ a r x p. reads (cons (sym (same-eq {a = f} {b = 43 ∷ []} d)) x) p))
     go false e false d = rw (e, d, readOption) nothing
 
 base-sound : (c : ℕ) (bs : List Base) → Maybe (λ b. letter b ≡ c) (baseIn c bs)
@@ -340,7 +329,7 @@ mutual
     where
       go : (b : Bool) → closing? f ≡ b → ((gs : List Bytes) → Reads typeF Named gs (readType k gs)) → ((gs : List Bytes) → Reads entriesF NamedF gs (readEntries k gs))
           → Reads entriesF NamedF (f ∷ fs) (readEntries (suc k) (f ∷ fs))
-      go true e ty es = rw (e, readEntries) (reads (cons (sym (same-eq f closing e)) refl) tt)
+      go true e ty es = rw (e, readEntries) (reads (cons (sym (same-eq {a = f} {b = closing} e)) refl) tt)
       go false e ty es =
           rw (e, readEntries)
           (onward-sound (name-in-sound (f ∷ fs)) (λ n r x g. onward-sound (ty r) (λ t q y h. onward-sound (es q) (λ fs p z m.
@@ -353,7 +342,7 @@ mutual
     where
       go : (b : Bool) → closing? f ≡ b → ((gs : List Bytes) → Reads typeF Named gs (readType k gs)) → ((gs : List Bytes) → Reads membersF NamedS gs (readMembers k gs))
           → Reads membersF NamedS (f ∷ fs) (readMembers (suc k) (f ∷ fs))
-      go true e ty ms = rw (e, readMembers) (reads (cons (sym (same-eq f closing e)) refl) tt)
+      go true e ty ms = rw (e, readMembers) (reads (cons (sym (same-eq {a = f} {b = closing} e)) refl) tt)
       go false e ty ms =
           rw (e, readMembers) (onward-sound (ty (f ∷ fs)) (λ t r x n. onward-sound (ms r) (λ ts q y m. reads (ap (typeF t) y ∙ x) (n, m))))
 

@@ -9,6 +9,7 @@ use lib.Dec.{eqb, ltb}
 use borrow.Author.Tests.{eqb-true, ne-eqb}
 use Rattle.semantics.specs.Bytes.{Bytes, front, split, hex}
 use Rattle.semantics.specs.Ty.{Base, tAny, tNull, tBool, tInt, tFloat, tNum, tString, tDate, tDatetime, tPath, tUnknown, Ty, base, tList, tMap, tNode, tRelationship, tUnion, Tys, ∅, _⊕_, Fields, ∅ᶠ, field, letter, nameTo, namesTo, labelsTo, relTo, lineTo, membersTo, fieldsTo}
+use Rattle.semantics.proofs.Order.{hex-low}
 
 -- ## A text is told by its pieces
 
@@ -96,14 +97,6 @@ abbrev pub typeF : Ty → List Bytes → List Bytes
 typeF t r = opening t ∷ inside t r
 
 -- ## A line's pieces are the type's fields
-
-pub hex-low : (d : ℕ) → 48 ≤ hex d
-unfolding hex
-hex-low d = go (ltb d 10)
-  where
-    go : (b : Bool) → 48 ≤ cond b (48 + d) (87 + d)
-    go true = omega arith
-    go false = omega arith
 
 split-name : (n s : Bytes) → split 44 (nameTo n s) ≡ nameF n ∷ split 44 s
 unfolding split front nameTo
