@@ -1,5 +1,10 @@
 pub mod Run
+pub mod Texts
 pub mod Cases
+pub mod LimitCases
+pub mod SizeCases
+pub mod WalkCases
+pub mod LongCases
 pub mod Order
 pub mod All
 pub mod Regular

@@ -1,0 +1,340 @@
+// Byte texts: compare, copy and rotate parts, append past the end, clear, decimal and hexadecimal digits, the ends of fields.
+ghost use mathlib.Core.Path.{_≡_};
+ghost use mathlib.Core.Logic.{_⊎_};
+ghost use mathlib.Core.List.{_++_, map};
+ghost use Prim.Native.Nat.{_+_, _*_, _≤_, _<_, _^_};
+ghost use lib.ListN.{length, take, drop, getD, set, replicate};
+ghost use lib.Seq.{sets, slice};
+ghost use Rattle.semantics.specs.Bytes.{lex, same, digit?, unhex, decimal, shown, digits};
+ghost use Rattle.semantics.specs.Builtins.{lower, folded};
+ghost use Rattle.text.specs.Text.{orderOf, hex?, digitOf, some?, grown, decOf, Ends, rotated};
+
+pub enum Order {
+    Less,
+    Same,
+    More,
+}
+
+// Whether the two texts are the same.
+pub fn same(a: &[u8], b: &[u8]) -> bool
+    ensures { λ r. ⌜ r ≡ same (now (a .entry)) (now (b .entry)) ⌝ }
+{
+    if a.len() != b.len() {
+        return false;
+    }
+    let mut i = 0;
+    while i < a.len() {
+        if a[i] != b[i] {
+            return false;
+        }
+        i += 1;
+    }
+    true
+}
+
+// Byte order; a text comes after its own beginnings.
+pub fn compare(a: &[u8], b: &[u8]) -> Order
+    ensures { λ r. ⌜ orderOf r ≡ lex (now (a .entry)) (now (b .entry)) ⌝ }
+{
+    let mut i = 0;
+    while i < a.len() {
+        if b.len() <= i {
+            return Order::More;
+        }
+        let x = a[i];
+        let y = b[i];
+        if x < y {
+            return Order::Less;
+        }
+        if y < x {
+            return Order::More;
+        }
+        i += 1;
+    }
+    if a.len() < b.len() {
+        return Order::Less;
+    }
+    Order::Same
+}
+
+// The same of two parts of one slice.
+pub fn compare_in(s: &[u8], a: usize, ae: usize, b: usize, be: usize) -> Order
+    requires { ⌜ (a ≤ ae) × (ae ≤ length (now s)) × (b ≤ be) × (be ≤ length (now s)) ⌝ }
+    ensures { λ r. ⌜ orderOf r ≡ lex (slice a ae (now (s .entry))) (slice b be (now (s .entry))) ⌝ }
+{
+    compare(&s[a..ae], &s[b..be])
+}
+
+pub fn same_in(s: &[u8], a: usize, ae: usize, b: usize, be: usize) -> bool
+    requires { ⌜ (a ≤ ae) × (ae ≤ length (now s)) × (b ≤ be) × (be ≤ length (now s)) ⌝ }
+    ensures { λ r. ⌜ r ≡ same (slice a ae (now (s .entry))) (slice b be (now (s .entry))) ⌝ }
+{
+    same(&s[a..ae], &s[b..be])
+}
+
+// Copies `len` bytes from `from` to `to`, which is not above `from`, or so far that the two are apart.
+pub fn copy_in(s: &mut [u8], from: usize, to: usize, len: usize)
+    requires { ⌜ (from + len ≤ length (now s)) × (to + len ≤ length (now s)) × ((to ≤ from) ⊎ (from + len ≤ to)) ⌝ }
+    ensures { λ _. ⌜ now (s .exit) ≡ sets (now (s .entry)) to (slice from (from + len) (now (s .entry))) ⌝ }
+{
+    let mut i = 0;
+    while i < len {
+        s[to + i] = s[from + i];
+        i += 1;
+    }
+}
+
+// Copies `len` bytes up from `from` to `to`, the last one first.
+pub fn slide_up(s: &mut [u8], from: usize, to: usize, len: usize)
+    requires { ⌜ (from ≤ to) × (to + len ≤ length (now s)) ⌝ }
+    ensures { λ _. ⌜ now (s .exit) ≡ sets (now (s .entry)) to (slice from (from + len) (now (s .entry))) ⌝ }
+{
+    let mut i = len;
+    while i > 0 {
+        i -= 1;
+        s[to + i] = s[from + i];
+    }
+}
+
+// Exchanges [a..m) and [m..e).
+pub fn rotate(s: &mut [u8], a: usize, m: usize, e: usize)
+    requires { ⌜ (a ≤ m) × (m ≤ e) × (e ≤ length (now s)) ⌝ }
+    ensures { λ _. ⌜ now (s .exit) ≡ rotated a m e (now (s .entry)) ⌝ }
+{
+    bytes::reverse(s, a, m);
+    bytes::reverse(s, m, e);
+    bytes::reverse(s, a, e);
+}
+
+// Writes `b` at `fill` if that is inside `out`, and counts it either way.
+pub fn put(out: &mut [u8], fill: usize, b: u8) -> usize
+    requires { ⌜ fill + 1 < 2 ^ 64 ⌝ }
+    ensures { λ r. ⌜ (r ≡ fill + 1) × (now (out .exit) ≡ set (now (out .entry)) fill b) ⌝ }
+{
+    if fill < out.len() {
+        out[fill] = b;
+    }
+    fill + 1
+}
+
+// Appends `t` at `fill`: what fits is written, the rest only counted.
+pub fn append(out: &mut [u8], fill: usize, t: &[u8]) -> usize
+    requires { ⌜ fill + length (now t) < 2 ^ 64 ⌝ }
+    ensures { λ r. ⌜ (r ≡ fill + length (now (t .entry))) × (now (out .exit) ≡ sets (now (out .entry)) fill (now (t .entry))) ⌝ }
+{
+    let mut i = 0;
+    let mut at = fill;
+    while i < t.len() {
+        at = put(out, at, t[i]);
+        i += 1;
+    }
+    at
+}
+
+// The decimal digits of n, appended: written from the last into an array first.
+pub fn append_decimal(out: &mut [u8], fill: usize, n: u64) -> usize
+    requires { ⌜ fill + 20 < 2 ^ 64 ⌝ }
+    ensures { λ r. ⌜ (r ≡ fill + length (shown n)) × (now (out .exit) ≡ sets (now (out .entry)) fill (shown n)) × (r ≤ fill + 20) ⌝ }
+{
+    let mut buf = [0u8; 20];
+    let mut m = n;
+    let mut i = 19;
+    while m >= 10 {
+        buf[i] = 48 + (m % 10) as u8;
+        m /= 10;
+        i -= 1;
+    }
+    buf[i] = 48 + m as u8;
+    append(out, fill, &buf[i..])
+}
+
+// Zeros every byte.
+pub fn clear(s: &mut [u8])
+    ensures { λ _. ⌜ now (s .exit) ≡ replicate (length (now (s .entry))) 0 ⌝ }
+{
+    let mut i = 0;
+    while i < s.len() {
+        s[i] = 0;
+        i += 1;
+    }
+}
+
+pub fn is_digit(b: u8) -> bool
+    ensures { λ r. ⌜ r ≡ digit? b ⌝ }
+{
+    if b < 48 {
+        return false;
+    }
+    if b <= 57 {
+        return true;
+    }
+    false
+}
+
+pub fn is_hex(b: u8) -> bool
+    ensures { λ r. ⌜ r ≡ hex? b ⌝ }
+{
+    if is_digit(b) {
+        return true;
+    }
+    if b < 97 {
+        return false;
+    }
+    if b <= 102 {
+        return true;
+    }
+    false
+}
+
+// The value of a hexadecimal digit, and 0 for any other byte.
+pub fn hex_value(b: u8) -> u8
+    ensures { λ r. ⌜ r ≡ digitOf b ⌝ }
+{
+    if is_digit(b) {
+        return b - 48;
+    }
+    if b < 97 {
+        return 0;
+    }
+    if b <= 102 {
+        return b - 87;
+    }
+    0
+}
+
+// A to Z as a to z.
+pub fn fold(b: u8) -> u8
+    ensures { λ r. ⌜ r ≡ lower b ⌝ }
+{
+    if b >= 65 {
+        if b <= 90 {
+            return b + 32;
+        }
+        return b;
+    }
+    b
+}
+
+// The byte whose two digits stand at `at`.
+pub fn hex_byte(hex: &[u8], at: usize) -> u8
+    requires { ⌜ at + 1 < length (now hex) ⌝ }
+    ensures { λ r. ⌜ r ≡ digitOf (getD (now (hex .entry)) at 0) * 16 + digitOf (getD (now (hex .entry)) (at + 1) 0) ⌝ }
+{
+    hex_value(hex[at]) * 16 + hex_value(hex[at + 1])
+}
+
+// Whether a name in hexadecimal is the plain `name`, ignoring ASCII case.
+pub fn same_hex_fold(hex: &[u8], name: &[u8]) -> bool
+    ensures { λ r. ⌜ r ≡ same (folded (map digitOf (now (hex .entry)))) (map lower (now (name .entry))) ⌝ }
+{
+    if hex.len() / 2 != name.len() {
+        return false;
+    }
+    let mut i = 0;
+    while i < name.len() {
+        if fold(hex_byte(hex, i * 2)) != fold(name[i]) {
+            return false;
+        }
+        i += 1;
+    }
+    true
+}
+
+// Whether every byte is a hexadecimal digit.
+pub fn all_hex(t: &[u8]) -> bool
+    ensures { λ r. ⌜ r ≡ some? (unhex (now (t .entry))) ⌝ }
+{
+    let mut i = 0;
+    while i < t.len() {
+        if !is_hex(t[i]) {
+            return false;
+        }
+        i += 1;
+    }
+    true
+}
+
+// A decimal number: what it is if that fits 64 bits, or that it is greater, or that it is none.
+pub enum Dec {
+    Is(u64),
+    Over,
+    Bad,
+}
+
+// One digit more.
+fn grow(n: Dec, d: u8) -> Dec
+    ensures { λ r. ⌜ r ≡ grown n d ⌝ }
+{
+    match n {
+        Dec::Is(k) => {
+            if k > 1844674407370955161 {
+                return Dec::Over;
+            }
+            let d = d as u64;
+            let m = k * 10;
+            if m > 18446744073709551615 - d {
+                return Dec::Over;
+            }
+            Dec::Is(m + d)
+        }
+        Dec::Over => Dec::Over,
+        Dec::Bad => Dec::Bad,
+    }
+}
+
+// A text of digits, leading zeros and all.
+fn number(t: &[u8]) -> Dec
+    ensures { λ r. ⌜ r ≡ decOf (digits 0 (now (t .entry))) ⌝ }
+{
+    let mut n = Dec::Is(0);
+    let mut i = 0;
+    while i < t.len() {
+        let c = t[i];
+        if !is_digit(c) {
+            return Dec::Bad;
+        }
+        n = grow(n, c - 48);
+        i += 1;
+    }
+    n
+}
+
+// A decimal number without leading zeros.
+pub fn decimal(t: &[u8]) -> Dec
+    ensures { λ r. ⌜ r ≡ decOf (decimal (now (t .entry))) ⌝ }
+{
+    if t.len() == 0 {
+        return Dec::Bad;
+    }
+    if t.len() == 1 {
+        return number(t);
+    }
+    if t[0] == 48 {
+        return Dec::Bad;
+    }
+    number(t)
+}
+
+// Where the piece at `at` ends: the first `b` from there on, or the end of the slice.
+pub fn seek(s: &[u8], at: usize, b: u8) -> usize
+    requires { ⌜ at ≤ length (now s) ⌝ }
+    ensures { λ r. ⌜ Ends b (now (s .entry)) at r ⌝ }
+{
+    bytes::scan::find(s, at, s.len(), b)
+}
+
+// Where the field at `at` ends: its comma, or the end of the slice.
+pub fn field_end(s: &[u8], at: usize) -> usize
+    requires { ⌜ at ≤ length (now s) ⌝ }
+    ensures { λ r. ⌜ Ends 44 (now (s .entry)) at r ⌝ }
+{
+    seek(s, at, 44)
+}
+
+// Where the line at `at` ends: its LF, or the end of the slice.
+pub fn line_end(s: &[u8], at: usize) -> usize
+    requires { ⌜ at ≤ length (now s) ⌝ }
+    ensures { λ r. ⌜ Ends 10 (now (s .entry)) at r ⌝ }
+{
+    seek(s, at, 10)
+}

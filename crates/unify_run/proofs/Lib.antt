@@ -1,0 +1,10 @@
+pub mod Size
+pub mod Gather
+pub mod Verdict
+pub mod Unions
+pub mod UnionsMeet
+pub mod Maps
+pub mod Labels
+pub mod Answers
+pub mod Theorem
+pub mod Examples

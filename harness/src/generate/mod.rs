@@ -1,0 +1,11 @@
+//! Seeded generators: sheets of every kind, damaged ones, both sides of every limit, type texts and pairs, rewordings.
+
+pub mod damage;
+pub mod exhaustive;
+pub mod exprs;
+pub mod probes;
+pub mod rewording;
+pub mod sheets;
+pub mod table;
+pub mod tree;
+pub mod types;

@@ -1,0 +1,19 @@
+//! The differential harness: the Rust reference with document 01's sheets, limits and refusals around it, generators,
+//! fixed answers, and the comparison with the static library.
+
+pub mod calls;
+pub mod cases;
+pub mod differential;
+pub mod external;
+pub mod generate;
+pub mod library;
+pub mod limited;
+pub mod limits;
+pub mod random;
+pub mod reference;
+pub mod report;
+pub mod self_check;
+pub mod sheet;
+pub mod shrink;
+pub mod type_line;
+pub mod vectors;

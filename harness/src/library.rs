@@ -1,0 +1,99 @@
+//! The static library's two calls in safe wrappers, for those that are linked (build.rs). A slice goes over as its
+//! address and its length, a returned number by address.
+
+#[cfg(any(cyrs_unify, cyrs_infer_types))]
+mod linked {
+    extern "C" {
+        #[cfg(cyrs_unify)]
+        pub fn cyrs_unify(
+            a: *const u8,
+            a_len: usize,
+            b: *const u8,
+            b_len: usize,
+            work: *mut u8,
+            work_len: usize,
+            out: *mut u8,
+            out_len: usize,
+            first: *mut u64,
+            second: *mut u64,
+        ) -> u32;
+
+        #[cfg(cyrs_infer_types)]
+        pub fn cyrs_infer_types(
+            sheet: *const u8,
+            sheet_len: usize,
+            work: *mut u8,
+            work_len: usize,
+            out: *mut u8,
+            out_len: usize,
+            first: *mut u64,
+        ) -> u32;
+    }
+}
+
+/// A call on a sheet: number and first returned number.
+pub type SheetCall = fn(&[u8], &mut [u8], &mut [u8]) -> (u32, u64);
+
+/// A call on two texts: number, first and second returned number.
+pub type UnifyCall = fn(&[u8], &[u8], &mut [u8], &mut [u8]) -> (u32, u64, u64);
+
+/// The linked `cyrs_infer_types`, if there is one.
+pub fn sheet_call() -> Option<SheetCall> {
+    #[cfg(cyrs_infer_types)]
+    return Some(infer_types);
+    #[cfg(not(cyrs_infer_types))]
+    None
+}
+
+/// The linked `cyrs_unify`, if there is one.
+pub fn unify_call() -> Option<UnifyCall> {
+    #[cfg(cyrs_unify)]
+    return Some(unify);
+    #[cfg(not(cyrs_unify))]
+    None
+}
+
+/// What a returned number holds before the call, so that one that is never written shows.
+#[cfg(any(cyrs_unify, cyrs_infer_types))]
+const UNSET: u64 = 0xdead_beef_dead_beef;
+
+#[cfg(cyrs_infer_types)]
+fn infer_types(sheet: &[u8], work: &mut [u8], out: &mut [u8]) -> (u32, u64) {
+    let mut first = UNSET;
+    // SAFETY: each pair is the address and the length of a live slice, the `&mut` ones lent to nobody else, and `first`
+    // is a live u64.
+    let number = unsafe {
+        linked::cyrs_infer_types(
+            sheet.as_ptr(),
+            sheet.len(),
+            work.as_mut_ptr(),
+            work.len(),
+            out.as_mut_ptr(),
+            out.len(),
+            &mut first,
+        )
+    };
+    (number, first)
+}
+
+#[cfg(cyrs_unify)]
+fn unify(a: &[u8], b: &[u8], work: &mut [u8], out: &mut [u8]) -> (u32, u64, u64) {
+    let mut first = UNSET;
+    let mut second = UNSET;
+    // SAFETY: as above.
+    let number = unsafe {
+        linked::cyrs_unify(
+            a.as_ptr(),
+            a.len(),
+            b.as_ptr(),
+            b.len(),
+            work.as_mut_ptr(),
+            work.len(),
+            out.as_mut_ptr(),
+            out.len(),
+            &mut first,
+            &mut second,
+        )
+    };
+    (number, first, second)
+}

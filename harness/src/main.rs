@@ -1,0 +1,95 @@
+//! The commands of the harness; README.md tells of each.
+
+use cyrs_harness::differential::{self, Library};
+use cyrs_harness::{external, self_check, vectors};
+use std::env;
+use std::path::Path;
+use std::process::ExitCode;
+
+const USAGE: &str = "usage:
+  cyrs-harness N [SEED]                  compare the linked library on all fixed and N random cases
+  cyrs-harness quick                     the same with 40,000 cases, after a short check of the reference
+  cyrs-harness self N [SEED]             check the reference alone, N rounds
+  cyrs-harness vectors DIR               write the fixed answers into DIR
+  cyrs-harness typesheet PATH N [SEED]   compare a typesheet program on all fixed and N random sheets";
+
+/// Seeds count up from here unless one is given.
+const SEED: u64 = 1;
+
+fn main() -> ExitCode {
+    let args: Vec<String> = env::args().skip(1).collect();
+    let args: Vec<&str> = args.iter().map(String::as_str).collect();
+    match command(&args) {
+        Ok(true) => ExitCode::SUCCESS,
+        Ok(false) => ExitCode::FAILURE,
+        Err(message) => {
+            eprintln!("{message}");
+            ExitCode::from(2)
+        }
+    }
+}
+
+fn command(args: &[&str]) -> Result<bool, String> {
+    match args {
+        ["quick"] => quick(),
+        ["self", rest @ ..] => {
+            let (count, seed) = count_and_seed(rest)?;
+            check_reference(count, seed)
+        }
+        ["vectors", folder] => write_vectors(folder),
+        ["typesheet", path, rest @ ..] => {
+            let (count, seed) = count_and_seed(rest)?;
+            external::run(path, count, seed).map_err(|e| format!("{path}: {e}"))
+        }
+        rest => {
+            let (count, seed) = count_and_seed(rest)?;
+            compare(count, seed)
+        }
+    }
+}
+
+fn count_and_seed(args: &[&str]) -> Result<(u64, u64), String> {
+    let number = |text: &str| {
+        text.replace('_', "")
+            .parse::<u64>()
+            .map_err(|_| USAGE.to_string())
+    };
+    match args {
+        [count] => Ok((number(count)?, SEED)),
+        [count, seed] => Ok((number(count)?, number(seed)?)),
+        _ => Err(USAGE.to_string()),
+    }
+}
+
+fn compare(count: u64, seed: u64) -> Result<bool, String> {
+    let library = Library::linked();
+    if library.is_empty() {
+        println!("no library is linked (CYRS_LIB was not set at build time): nothing compared");
+        return Ok(true);
+    }
+    Ok(differential::run(library, count, seed))
+}
+
+fn quick() -> Result<bool, String> {
+    Ok(check_reference(5_000, SEED)? && compare(40_000, SEED)?)
+}
+
+fn check_reference(count: u64, seed: u64) -> Result<bool, String> {
+    match self_check::run(count, seed) {
+        Ok(seen) => {
+            println!("the reference agrees with itself: {seen:#?}");
+            Ok(true)
+        }
+        Err(message) => {
+            println!("{message}");
+            Ok(false)
+        }
+    }
+}
+
+fn write_vectors(folder: &str) -> Result<bool, String> {
+    let (sheets, pairs) =
+        vectors::write(Path::new(folder)).map_err(|e| format!("{folder}: {e}"))?;
+    println!("{sheets} sheets and {pairs} pairs written");
+    Ok(true)
+}

@@ -1,0 +1,81 @@
+//! The linked library against the reference, briefly; the long run is a command.
+
+use cyrs_harness::calls::sheet_report;
+use cyrs_harness::cases::Case;
+use cyrs_harness::differential::{run, Library};
+use cyrs_harness::generate::sheets::tree;
+use cyrs_harness::library::{SheetCall, UnifyCall};
+use cyrs_harness::random::Random;
+use cyrs_harness::shrink::smallest;
+use cyrs_harness::{calls, limits};
+
+#[test]
+fn linked_library() {
+    let library = Library::linked();
+    if library.is_empty() {
+        println!("no library is linked: nothing compared");
+        return;
+    }
+    assert!(run(library, 5_000, 3));
+}
+
+/// The comparison itself: the reference against itself is equal, and against one with a fault is not.
+#[test]
+fn a_faulty_library_shows() {
+    let good: SheetCall = calls::sheet_call;
+    let pairs: UnifyCall = calls::unify_call;
+    let library = Library {
+        sheet: Some(good),
+        unify: Some(pairs),
+    };
+    assert!(run(library, 300, 4));
+    let faulty: SheetCall = |sheet, work, out| {
+        let answer = calls::sheet_call(sheet, work, out);
+        if answer.0 == 3 && work.len() == limits::WORK_BYTES {
+            work[65_535] = 1;
+        }
+        answer
+    };
+    let library = Library {
+        sheet: Some(faulty),
+        unify: None,
+    };
+    assert!(!run(library, 300, 4));
+    let faulty: UnifyCall = |a, b, work, out| {
+        let (number, first, second) = calls::unify_call(a, b, work, out);
+        (number, first, second + u64::from(number == 8))
+    };
+    let library = Library {
+        sheet: None,
+        unify: Some(faulty),
+    };
+    assert!(!run(library, 300, 4));
+}
+
+/// The search for a smallest input gets through the structure of a sheet and of a type.
+#[test]
+fn differences_shrink() {
+    let tree = (1..)
+        .map(|seed| tree(&mut Random::new(seed)).text())
+        .find(|t| {
+            let text = String::from_utf8_lossy(t);
+            t.len() > 2_000 && text.contains("\nlpr,") && sheet_report(t).is_ok()
+        })
+        .unwrap();
+    let case = Case::Sheet {
+        sheet: tree,
+        work: 0,
+        out: 0,
+    };
+    let least = smallest(case, |c| match c {
+        Case::Sheet { sheet, .. } => {
+            let text = String::from_utf8_lossy(sheet);
+            text.contains("\nlpr,") && sheet_report(sheet).is_ok()
+        }
+        Case::Pair { .. } => false,
+    });
+    let Case::Sheet { sheet, .. } = least else {
+        panic!("another kind of case");
+    };
+    assert!(sheet.len() < 60, "{}", String::from_utf8_lossy(&sheet));
+}

@@ -1,0 +1,39 @@
+//! The stored answers are the reference's, and are what the command writes.
+
+use cyrs_harness::vectors::{answer, file_text, read, PAIRS_FILE, SHEETS_FILE};
+use std::collections::BTreeSet;
+use std::fs;
+use std::path::Path;
+
+fn stored(file: &str) -> Vec<u8> {
+    let path = Path::new(env!("CARGO_MANIFEST_DIR"))
+        .join("vectors")
+        .join(file);
+    fs::read(&path).unwrap_or_else(|e| panic!("{}: {e}", path.display()))
+}
+
+fn replay(file: &str) -> BTreeSet<u32> {
+    let text = stored(file);
+    let cases = read(&text).unwrap_or_else(|e| panic!("{file}: {e}"));
+    assert!(cases.len() > 500);
+    let mut numbers = BTreeSet::new();
+    for (i, (case, expected)) in cases.iter().enumerate() {
+        assert_eq!(answer(case), *expected, "{file}, case {i}");
+        numbers.insert(expected.case_number);
+    }
+    let cases: Vec<_> = cases.into_iter().map(|c| c.0).collect();
+    assert_eq!(file_text(&cases), text);
+    numbers
+}
+
+#[test]
+fn sheets() {
+    let numbers: Vec<u32> = replay(SHEETS_FILE).into_iter().collect();
+    assert_eq!(numbers, [0, 1, 2, 3, 4, 5, 6, 7]);
+}
+
+#[test]
+fn pairs() {
+    let numbers: Vec<u32> = replay(PAIRS_FILE).into_iter().collect();
+    assert_eq!(numbers, [0, 2, 6, 7, 8, 9]);
+}
