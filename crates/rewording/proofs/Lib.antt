@@ -7,3 +7,4 @@ pub mod Lines
 pub mod Unions
 pub mod Theorem
 pub mod Examples
+pub mod Readable

@@ -1,0 +1,342 @@
+-- Every sheet that can be read has the form that renumbering speaks of: the first line, `b` lines, and a rest that begins with none.
+use mathlib.Core.Path.{_≡_, refl, sym, _∙_, ap, subst}
+use mathlib.Core.List.{List, [], _∷_, _++_, map as mapL}
+use mathlib.Core.Option.{Option, none, some}
+use mathlib.Core.Bool.{Bool, true, false, _&&_, and-eq-true-iff, false≢true}
+use Prim.Native.Nat.{ℕ, suc, zero, _≤_}
+use native.Mathlib.Omega.{arith}
+use lib.ListN.{length}
+use lib.Dec.{eqb, leb, ltb}
+use borrow.Author.Tests.{leb-true, ne-eqb}
+use Rattle.semantics.specs.Bytes.{Bytes, split, decimal}
+use Rattle.semantics.specs.Sheet.{Word, CYRS, B, END, MAT, CRE, MER, WHE, WIT, RET, UNW, SET, REM, DEL, CAL, PRO, SP, SL, SM, RP, RL, LAB, PARTS, PART, NOD, REL, NULL, BOOL, INT, FLT, STR, VAR, PAR, UNR, EXI, PROP, IDX, SLI, LIS, MAP, KEY, CALL, BIN, UNA, CASE, ISN, IN, PAT, LCP, PCP, LPR, MPR, COP, COM, SHO, ALI, Field, range, variable, letter, Head, num, variableOf, row, rank, place, roles, words, wordIn, Value, wrong, number, variableV, nameV, aliasV, within, lettered, value, Read, bad, ok, into, fill, bare, Want, first, clauses, bindings, at, fits, beyond, andThen, readFields, readAs, readPieces, readLine, after, under, Sheet, refused, heads, add, carry, check, sheet}
+use Rattle.semantics.specs.Walk.{bound, boundBy}
+use Rattle.semantics.proofs.All.{either}
+use Rattle.rewording.specs.Reword.{mk, bindingLine, withBindings}
+
+-- ## Words by their place
+
+data Placed : Word → Type 0 where
+  a-first : Placed CYRS
+  a-binding : Placed B
+  another : {w : Word} → eqb (rank (row w .place)) 0 ≡ false → eqb (rank (row w .place)) 1 ≡ false → Placed w
+
+placed : (w : Word) → Placed w
+unfolding row rank
+placed CYRS = a-first
+placed B = a-binding
+placed END = another refl refl
+placed MAT = another refl refl
+placed CRE = another refl refl
+placed MER = another refl refl
+placed WHE = another refl refl
+placed WIT = another refl refl
+placed RET = another refl refl
+placed UNW = another refl refl
+placed SET = another refl refl
+placed REM = another refl refl
+placed DEL = another refl refl
+placed CAL = another refl refl
+placed PRO = another refl refl
+placed SP = another refl refl
+placed SL = another refl refl
+placed SM = another refl refl
+placed RP = another refl refl
+placed RL = another refl refl
+placed LAB = another refl refl
+placed PARTS = another refl refl
+placed PART = another refl refl
+placed NOD = another refl refl
+placed REL = another refl refl
+placed NULL = another refl refl
+placed BOOL = another refl refl
+placed INT = another refl refl
+placed FLT = another refl refl
+placed STR = another refl refl
+placed VAR = another refl refl
+placed PAR = another refl refl
+placed UNR = another refl refl
+placed EXI = another refl refl
+placed PROP = another refl refl
+placed IDX = another refl refl
+placed SLI = another refl refl
+placed LIS = another refl refl
+placed MAP = another refl refl
+placed KEY = another refl refl
+placed CALL = another refl refl
+placed BIN = another refl refl
+placed UNA = another refl refl
+placed CASE = another refl refl
+placed ISN = another refl refl
+placed IN = another refl refl
+placed PAT = another refl refl
+placed LCP = another refl refl
+placed PCP = another refl refl
+placed LPR = another refl refl
+placed MPR = another refl refl
+placed COP = another refl refl
+placed COM = another refl refl
+placed SHO = another refl refl
+placed ALI = another refl refl
+
+-- ## The first line
+
+abbrev First : Read → Type 0
+First (bad c) = Unit {0}
+First (ok h) = h ≡ mk CYRS none (1 ∷ []) []
+
+first-field : (o : Option ℕ) → First (into (bare CYRS) (within 1 1 o number) (λ k. fill k [] []))
+unfolding within fill
+first-field none = tt
+first-field (some n) = go (leb 1 n && leb n 1) refl
+  where
+    go : (b : Bool) → (leb 1 n && leb n 1) ≡ b → First (into (bare CYRS) (elim b [ true ↦ number n | false ↦ wrong 4 ]) (λ k. fill k [] []))
+    go true e =
+        let p = and-eq-true-iff (leb 1 n) (leb n 1) .0 e in
+        let q : n ≡ 1 = omega (arith, leb-true 1 n (p .0), leb-true n 1 (p .1)) in
+        ap (λ (x : ℕ). mk CYRS none (x ∷ []) []) q
+    go false e = tt
+
+first-fill : (xs : List Bytes) → First (fill (bare CYRS) (range 1 1 ∷ []) xs)
+unfolding fill value
+first-fill [] = tt
+first-fill (x ∷ []) = first-field (decimal x)
+first-fill (x ∷ y ∷ xs) = go (within 1 1 (decimal x) number)
+  where
+    go : (v : Value) → First (into (bare CYRS) v (λ k. fill k [] (y ∷ xs)))
+    go (wrong c) = tt
+    go (number n) = tt
+    go (variableV v) = tt
+    go (nameV s) = tt
+    go (aliasV s) = tt
+
+-- ## A `b` line
+
+abbrev Bound : Read → Type 0
+Bound (bad c) = Unit {0}
+Bound (ok h) = (b : ℕ × ℕ) × (h ≡ bindingLine b)
+
+letter-field : (v : ℕ) (s : Bytes) → Bound (into (mk B (some v) [] []) (lettered s) (λ k. fill k [] []))
+unfolding lettered fill
+letter-field v [] = tt
+letter-field v (c ∷ []) = go (eqb c 78) (eqb c 82) (eqb c 80) (eqb c 86)
+  where
+    go : (n r p t : Bool) → Bound (into (mk B (some v) [] []) (elim n [ true ↦ number 0 | false ↦ elim r [ true ↦ number 1 | false ↦ elim p [ true ↦ number 2 | false ↦ elim t [ true ↦ number 3 | false ↦ wrong 3 ] ] ] ]) (λ k. fill k [] []))
+    go true r p t = ((v, 0), refl)
+    go false true p t = ((v, 1), refl)
+    go false false true t = ((v, 2), refl)
+    go false false false true = ((v, 3), refl)
+    go false false false false = tt
+letter-field v (c ∷ d ∷ cs) = tt
+
+variable-field : (o : Option ℕ) (xs : List Bytes) → Bound (into (bare B) (within 0 4294967295 o (λ v. variableV (some v))) (λ k. fill k (letter ∷ []) xs))
+unfolding within fill value
+variable-field none xs = tt
+variable-field (some n) xs = go (leb 0 n && leb n 4294967295) xs
+  where
+    go : (b : Bool) (xs : List Bytes) → Bound (into (bare B) (elim b [ true ↦ variableV (some n) | false ↦ wrong 4 ]) (λ k. fill k (letter ∷ []) xs))
+    go true [] = tt
+    go true (y ∷ []) = letter-field n y
+    go true (y ∷ z ∷ ys) = too-many (lettered y)
+      where
+        too-many : (v : Value) → Bound (into (mk B (some n) [] []) v (λ k. fill k [] (z ∷ ys)))
+        too-many (wrong c) = tt
+        too-many (number m) = tt
+        too-many (variableV v) = tt
+        too-many (nameV s) = tt
+        too-many (aliasV s) = tt
+    go false xs = tt
+
+binding-fill : (xs : List Bytes) → Bound (fill (bare B) (variable ∷ letter ∷ []) xs)
+unfolding fill value
+binding-fill [] = tt
+binding-fill (x ∷ xs) = variable-field (decimal x) xs
+
+-- ## Any line
+
+abbrev OfWord : Word → Read → Type 0
+OfWord w (bad c) = Unit {0}
+OfWord w (ok h) = h .word ≡ w
+
+into-word : (w : Word) (h : Head) (v : Value) (f : Head → Read) → h .word ≡ w → ((k : Head) → k .word ≡ w → OfWord w (f k)) → OfWord w (into h v f)
+into-word w h (wrong c) f e g = tt
+into-word w h (number n) f e g = g _ e
+into-word w h (variableV v) f e g = g _ e
+into-word w h (nameV s) f e g = g _ e
+into-word w h (aliasV s) f e g = g _ e
+
+fill-word : (w : Word) (h : Head) (fs : List Field) (xs : List Bytes) → h .word ≡ w → OfWord w (fill h fs xs)
+unfolding fill
+fill-word w h [] [] e = e
+fill-word w h [] (x ∷ xs) e = tt
+fill-word w h (f ∷ fs) [] e = tt
+fill-word w h (f ∷ fs) (x ∷ xs) e = into-word w h (value f (h .nums) x) (λ k. fill k fs xs) e (λ k p. fill-word w k fs xs p)
+
+pub record Forms (h : Head) : Type 0 where
+  pub first-form : eqb (rank (place h)) 0 ≡ true → h ≡ mk CYRS none (1 ∷ []) []
+  pub binding-form : eqb (rank (place h)) 1 ≡ true → (b : ℕ × ℕ) × (h ≡ bindingLine b)
+
+abbrev OkForms : Read → Type 0
+OkForms (bad c) = Unit {0}
+OkForms (ok h) = Forms h
+
+first-forms : (r : Read) → First r → OkForms r
+unfolding row rank
+first-forms (bad c) p = tt
+first-forms (ok h) p = rw p (record { first-form = λ e. refl; binding-form = λ e. absurd (false≢true e) })
+
+binding-forms : (r : Read) → Bound r → OkForms r
+unfolding row rank
+binding-forms (bad c) p = tt
+binding-forms (ok h) p = go (p .0) (p .1)
+  where
+    go : (b : ℕ × ℕ) → h ≡ bindingLine b → Forms h
+    go b e = rw e (record { first-form = λ e. absurd (false≢true e); binding-form = λ e. (b, refl) })
+
+other-forms : (w : Word) (r : Read) → OfWord w r → eqb (rank (row w .place)) 0 ≡ false → eqb (rank (row w .place)) 1 ≡ false → OkForms r
+other-forms w (bad c) p a b = tt
+other-forms w (ok h) p a b =
+    let f : eqb (rank (place h)) 0 ≡ false = ap (λ (v : Word). eqb (rank (row v .place)) 0) p ∙ a in
+    let g : eqb (rank (place h)) 1 ≡ false = ap (λ (v : Word). eqb (rank (row v .place)) 1) p ∙ b in
+    record { first-form = λ e. absurd (false≢true (sym f ∙ e)); binding-form = λ e. absurd (false≢true (sym g ∙ e)) }
+
+fill-forms : (w : Word) → Placed w → (xs : List Bytes) → OkForms (fill (bare w) (row w .fields) xs)
+fill-forms w a-first xs = unfold row in (first-forms (fill (bare CYRS) (range 1 1 ∷ []) xs) (first-fill xs))
+fill-forms w a-binding xs = unfold row in (binding-forms (fill (bare B) (variable ∷ letter ∷ []) xs) (binding-fill xs))
+fill-forms w (another a b) xs = other-forms w (fill (bare w) (row w .fields) xs) (fill-word w (bare w) (row w .fields) xs refl) a b
+
+-- ## The lines of a sheet
+
+pub record Form (hs : List Head) : Type 0 where
+  pub bs : List (ℕ × ℕ)
+  pub body : List Head
+  pub is : hs ≡ mapL bindingLine bs ++ body
+  pub free : bound body ≡ []
+
+-- a line that a `b` line, a clause or the end may be
+abbrev Passed : Want → Read → Type 0
+Passed w (bad c) = Unit {0}
+Passed w (ok h) = (fits w (rank (place h)) ≡ true) × Forms h
+
+beyond-passed : (w : Want) (h : Head) → fits w (rank (place h)) ≡ true → Forms h → Passed w (beyond w h)
+unfolding beyond
+beyond-passed first h f p = (f, p)
+beyond-passed clauses h f p = (f, p)
+beyond-passed (bindings v) h f p = either (Passed (bindings v)) (eqb (rank (place h)) 1 && ltb (variableOf h) v) tt (f, p)
+beyond-passed (at q d) h f p = either (Passed (at q d)) (eqb (rank q) 13 && ltb 24 d) tt (f, p)
+
+then-passed : (w : Want) (v : Word) (r : Read) → OfWord v r → OkForms r → fits w (rank (row v .place)) ≡ true → Passed w (andThen r (beyond w))
+then-passed w v (bad c) p q f = tt
+then-passed w v (ok h) p q f = beyond-passed w h (ap (λ (u : Word). fits w (rank (row u .place))) p ∙ f) q
+
+fields-passed : (w : Want) (v : Word) (xs : List Bytes) → Passed w (readFields w v xs)
+unfolding readFields
+fields-passed w v xs = go (fits w (rank (row v .place)) && eqb (length xs) (length (row v .fields))) refl
+  where
+    go : (b : Bool) → (fits w (rank (row v .place)) && eqb (length xs) (length (row v .fields))) ≡ b
+        → Passed w (elim b [ true ↦ andThen (fill (bare v) (row v .fields) xs) (beyond w) | false ↦ bad 3 ])
+    go true e =
+        let f = and-eq-true-iff (fits w (rank (row v .place))) (eqb (length xs) (length (row v .fields))) .0 e .0 in
+        then-passed w v (fill (bare v) (row v .fields) xs) (fill-word v (bare v) (row v .fields) xs refl) (fill-forms v (placed v) xs) f
+    go false e = tt
+
+as-passed : (w : Want) (o : Option Word) (xs : List Bytes) → Passed w (readAs w o xs)
+as-passed w none xs = tt
+as-passed w (some v) xs = fields-passed w v xs
+
+pieces-passed : (w : Want) (ps : List Bytes) → Passed w (readPieces w ps)
+unfolding readPieces
+pieces-passed w [] = tt
+pieces-passed w (x ∷ xs) = as-passed w (wordIn x words) xs
+
+line-passed : (w : Want) (l : Bytes) → Passed w (readLine w l)
+unfolding readLine
+line-passed w l = pieces-passed w (split 44 l)
+
+-- ## The lines of a sheet
+
+add-heads : (h : Head) (q : Sheet) (hs : List Head) → add h q ≡ heads hs → (ks : List Head) × (q ≡ heads ks) × (hs ≡ h ∷ ks)
+unfolding add
+add-heads h (refused c n) hs e = let z : _≡_ {A = ℕ} 0 1 = cc in absurd (omega arith)
+add-heads h (heads ks) hs e = (ks, refl, cc)
+
+no-bound : (p : ℕ) (v : Option ℕ) (k : ℕ) (bs : List (ℕ × ℕ)) → eqb p 0 ≡ false → eqb p 1 ≡ false → boundBy p v k bs ≡ []
+unfolding boundBy
+no-bound p v k bs a b = rw (a, b, boundBy)
+
+-- a line that is no `b` line ends the bindings
+ends-bindings : (v : ℕ) (h : Head) (ks : List Head) → fits (bindings v) (rank (place h)) ≡ true → eqb (rank (place h)) 1 ≡ false → bound (h ∷ ks) ≡ []
+unfolding bound fits
+ends-bindings v h ks f b =
+    let p = and-eq-true-iff (leb 1 (rank (place h))) (leb (rank (place h)) 3) .0 f in
+    no-bound (rank (place h)) (h .var) (num h 0) (bound ks) (ne-eqb (rank (place h)) 0 (λ e. omega (arith, leb-true 1 (rank (place h)) (p .0)))) b
+
+-- after a `b` line: a greater one, a clause or the end
+after-binding : (v : ℕ) (b : ℕ × ℕ) → under (bindings v) (bindingLine b) ++ [] ≡ bindings (suc (b .0)) ∷ []
+unfolding under roles row after rank
+after-binding v b = refl
+
+module _ (v n : ℕ) (ls : List Bytes) (ih : (w : ℕ) (ks : List Head) → check (bindings w ∷ []) (suc n) ls ≡ heads ks → Form ks) where
+  binding-step : (b : ℕ × ℕ) (ks : List Head) → check (under (bindings v) (bindingLine b) ++ []) (suc n) ls ≡ heads ks → Form (bindingLine b ∷ ks)
+  binding-step b ks e =
+      let f = ih (suc (b .0)) ks (rw (after-binding v b) at e) in
+      record { bs = b ∷ f .bs; body = f .body; is = ap (λ z. bindingLine b ∷ z) (f .is); free = f .free }
+
+  form-step : (h : Head) (ks : List Head) → (fits (bindings v) (rank (place h)) ≡ true) × Forms h → check (under (bindings v) h ++ []) (suc n) ls ≡ heads ks → Form (h ∷ ks)
+  form-step h ks p e = go (eqb (rank (place h)) 1) refl
+    where
+      of : (b : ℕ × ℕ) → h ≡ bindingLine b → Form (h ∷ ks)
+      of b q =
+          let e′ : check (under (bindings v) (bindingLine b) ++ []) (suc n) ls ≡ heads ks = sym (ap (λ (z : Head). check (under (bindings v) z ++ []) (suc n) ls) q) ∙ e in
+          subst (λ (z : Head). Form (z ∷ ks)) (sym q) (binding-step b ks e′)
+
+      go : (x : Bool) → eqb (rank (place h)) 1 ≡ x → Form (h ∷ ks)
+      go true b = let q = p .1 .binding-form b in of (q .0) (q .1)
+      go false b = record { bs = []; body = h ∷ ks; is = refl; free = ends-bindings v h ks (p .0) b }
+
+  carried-form : (r : Read) → Passed (bindings v) r → (hs : List Head) → carry n r (λ h. check (under (bindings v) h ++ []) (suc n) ls) ≡ heads hs → Form hs
+  unfolding carry
+  carried-form (bad c) p hs e = let z : _≡_ {A = ℕ} 0 1 = cc in absurd (omega arith)
+  carried-form (ok h) p hs e =
+      let (ks, q, is) = add-heads h (check (under (bindings v) h ++ []) (suc n) ls) hs e in
+      subst Form (sym is) (form-step h ks p q)
+
+-- behind the first line: `b` lines, and then a line that is none
+bindings-form : (ls : List Bytes) (v n : ℕ) (hs : List Head) → check (bindings v ∷ []) n ls ≡ heads hs → Form hs
+unfolding check
+bindings-form [] v n hs e = let z : _≡_ {A = ℕ} 0 1 = cc in absurd (omega arith)
+bindings-form (l ∷ []) v n hs e = let z : _≡_ {A = ℕ} 0 1 = cc in absurd (omega arith)
+bindings-form (l ∷ l′ ∷ ls) v n hs e = carried-form v n (l′ ∷ ls) (λ w ks. bindings-form (l′ ∷ ls) w (suc n) ks) (readLine (bindings v) l) (line-passed (bindings v) l) hs e
+
+-- ## The whole sheet
+
+pub record Renumberable (hs : List Head) : Type 0 where
+  pub bs : List (ℕ × ℕ)
+  pub body : List Head
+  pub is : hs ≡ withBindings bs body
+  pub free : bound body ≡ []
+
+after-first : under first (mk CYRS none (1 ∷ []) []) ++ [] ≡ bindings 0 ∷ []
+unfolding under roles row after rank
+after-first = refl
+
+first-carried : (ls : List Bytes) (r : Read) → Passed first r → (hs : List Head) → carry 1 r (λ h. check (under first h ++ []) 2 ls) ≡ heads hs → Renumberable hs
+unfolding carry fits
+first-carried ls (bad c) p hs e = let z : _≡_ {A = ℕ} 0 1 = cc in absurd (omega arith)
+first-carried ls (ok h) p hs e =
+    let (ks, q, is) = add-heads h (check (under first h ++ []) 2 ls) hs e in
+    let h-is : h ≡ mk CYRS none (1 ∷ []) [] = p .1 .first-form (p .0) in
+    let q′ : check (under first (mk CYRS none (1 ∷ []) []) ++ []) 2 ls ≡ heads ks = sym (ap (λ (z : Head). check (under first z ++ []) 2 ls) h-is) ∙ q in
+    let f = bindings-form ls 0 2 ks (rw after-first at q′) in
+    record { bs = f .bs; body = f .body; is = is ∙ ap (λ (z : Head). z ∷ ks) h-is ∙ ap (λ (z : List Head). mk CYRS none (1 ∷ []) [] ∷ z) (f .is); free = f .free }
+
+sheet-lines : (ls : List Bytes) (hs : List Head) → check (first ∷ []) 1 ls ≡ heads hs → Renumberable hs
+unfolding check
+sheet-lines [] hs e = let z : _≡_ {A = ℕ} 0 1 = cc in absurd (omega arith)
+sheet-lines (l ∷ []) hs e = let z : _≡_ {A = ℕ} 0 1 = cc in absurd (omega arith)
+sheet-lines (l ∷ l′ ∷ ls) hs e = first-carried (l′ ∷ ls) (readLine first l) (line-passed first l) hs e
+
+-- a sheet that can be read may be renumbered by any map that is one to one on its variables
+pub read-renumberable : (s : Bytes) (hs : List Head) → sheet s ≡ heads hs → Renumberable hs
+unfolding sheet
+read-renumberable s hs e = sheet-lines (split 10 s) hs e
