@@ -1,0 +1,84 @@
+-- What the numbers of the table stand for, and what the contracts of builtins cite.
+use Prim.Native.Nat.{ℕ, _≤_, _<_}
+use mathlib.Core.Path.{_≡_}
+use mathlib.Core.List.{List, [], _∷_}
+use mathlib.Core.Option.{Option, none, some}
+use mathlib.Core.Bool.{Bool, true, false}
+use lib.Dec.{eqb}
+use lib.ListN.{length, take, getD}
+use Rattle.semantics.specs.Bytes.{Bytes}
+use Rattle.semantics.specs.Ty.{tAny, tInt, tString, Ty, base, tList, line}
+use Rattle.semantics.specs.Builtins.{ArgShape, sAny, sList, sString, sListOrString, sGraphEntity, sMap, sGraphEntityOrMap, ReturnShape, fixed, listElement, listSelf, signature, Builtin, ID, SIZE, HEAD, TAIL, LAST, KEYS, VALUES, builtins, shape, all?, accepts, resolveReturn}
+use Rattle.ty.specs.Read.{kindOf}
+use Rattle.ty.specs.Parts.{TypeAt}
+use Rattle.builtins.specs.declared.Row.{Row}
+
+-- the shape, the return shape and the function of a number
+unfoldable pub shapeOf : ℕ → ArgShape
+shapeOf n = getD (sAny ∷ sList ∷ sString ∷ sListOrString ∷ sGraphEntity ∷ sMap ∷ []) n sGraphEntityOrMap
+
+unfoldable pub returnOf : ℕ → ReturnShape
+returnOf n = getD (fixed (base tInt) ∷ fixed (tList (base tString)) ∷ fixed (tList (base tAny)) ∷ listElement ∷ []) n listSelf
+
+unfoldable pub builtinOf : ℕ → Builtin
+builtinOf n = getD builtins n VALUES
+
+-- the number of a function's row, 7 for none
+unfoldable pub rowOf : Option Builtin → ℕ
+rowOf none = 7
+rowOf (some b) = elim b [ ID ↦ 0 | SIZE ↦ 1 | HEAD ↦ 2 | TAIL ↦ 3 | LAST ↦ 4 | KEYS ↦ 5 | VALUES ↦ 6 ]
+
+-- the row r says what the function's signature does
+pub record RowFor (b : Builtin) (r : Row) : Type 0 where
+  pub named : take (r .len) (r .name) ≡ signature b .name
+  pub takes : shapeOf (r .shape) ∷ [] ≡ signature b .params
+  pub gives : returnOf (r .ret) ≡ signature b .ret
+  pub short : r .len ≤ 6
+  pub wide : length (r .name) ≡ 6
+  pub shapes : r .shape < 7
+
+-- what the shapes tell apart of a type, by its kind letter: 0 Any and Unknown, 1 strings, 2 paths, 3 lists, 4 nodes and relationships, 5 maps
+unfoldable pub classOf : ℕ → ℕ
+classOf k =
+    elim (eqb k 65) [
+      | true ↦ 0
+      | false ↦ elim (eqb k 80) [
+        | true ↦ 0
+        | false ↦ elim (eqb k 71) [
+          | true ↦ 1
+          | false ↦ elim (eqb k 78) [
+            | true ↦ 2
+            | false ↦ elim (eqb k 74) [
+              | true ↦ 3
+              | false ↦ elim (eqb k 76) [ true ↦ 4 | false ↦ elim (eqb k 77) [ true ↦ 4 | false ↦ elim (eqb k 75) [ true ↦ 5 | false ↦ 6 ] ] ]
+            ]
+          ]
+        ]
+      ]
+    ]
+
+unfoldable pub acceptsClass : ArgShape → ℕ → Bool
+acceptsClass s c = getD (true ∷ shape s .string ∷ shape s .path ∷ shape s .list ∷ shape s .graph ∷ shape s .mapping ∷ []) c (all? s)
+
+-- the answer for every type of this kind
+abbrev pub AcceptsKind : ℕ → ℕ → Bool → Type 0
+AcceptsKind s k r = (t : Ty) → kindOf t ≡ k → r ≡ accepts (shapeOf s) t
+
+-- the first argument's type stands at [0, n), or there is none
+abbrev pub FirstAt : Bytes → ℕ → List Ty → Type 0
+FirstAt s n [] = n ≡ 0
+FirstAt s n (t ∷ ts) = TypeAt s 0 n t
+
+pub record SomeFirst (s : Bytes) (n : ℕ) : Type 0 where
+  pub types : List Ty
+  pub first : FirstAt s n types
+  pub room : 4 ≤ length s
+  pub within : n ≤ length s
+
+-- the return type stands at the front
+pub record Returned (s s′ : Bytes) (t : Ty) (r : ℕ) : Type 0 where
+  pub at : TypeAt s′ 0 r t
+  pub long : length s′ ≡ length s
+
+abbrev pub Resolved : ℕ → Bytes → Bytes → ℕ → ℕ → Type 0
+Resolved ret s s′ n r = (ts : List Ty) → FirstAt s n ts → Returned s s′ (resolveReturn (returnOf ret) ts) r

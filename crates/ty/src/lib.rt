@@ -1,0 +1,59 @@
+// Type lines (ty.rs): where a type ends, its size, the strict reader, the running union, map entries, label sets, type names.
+mod end;
+mod label_sets;
+mod lone;
+mod map;
+mod merging;
+mod names;
+mod reader;
+mod union;
+
+pub use end::TypeEnd;
+pub use end::fits;
+pub use end::nesting_end;
+pub use end::next_field;
+pub use end::type_end;
+pub use label_sets::merge_labels;
+pub use lone::keep_lone;
+pub use map::put_entry;
+pub use merging::Merge;
+pub use merging::close_line;
+pub use merging::keep;
+pub use merging::kept;
+pub use merging::name_len;
+pub use merging::next_name;
+pub use merging::take;
+pub use merging::taken;
+pub use names::append_type_name;
+pub use reader::is_type_line;
+pub use union::add_members;
+pub use union::add_union;
+pub use union::close_union;
+ghost use mathlib.Core.Path.{_≡_};
+ghost use lib.ListN.{drop};
+ghost use Rattle.semantics.specs.Bytes.{Bytes};
+ghost use Rattle.semantics.specs.Ty.{Ty, tList, lineTo, line};
+ghost use Rattle.ty.specs.Parts.{TypeFrom};
+ghost use Rattle.ty.specs.Read.{kindOf, ListLine};
+
+// The length of what was made, or that it is too large.
+pub enum Grown {
+    Len(usize),
+    TooLarge,
+}
+
+// The letter of the type at `at`.
+pub fn kind(s: &[u8], at: usize) -> u8
+    requires { ⌜ TypeFrom (now s) at ⌝ }
+    ensures { λ r. ⌜ ((t : Ty) (rest : Bytes) → drop at (now (s .entry)) ≡ lineTo t rest → r ≡ kindOf t) ⌝ }
+{
+    s[at]
+}
+
+// The element of a list type: that part of its line.
+pub fn element(s: &[u8]) -> &[u8]
+    requires { ⌜ ListLine (now s) ⌝ }
+    ensures { λ r. ⌜ ((t : Ty) → now (s .entry) ≡ line (tList t) → now r ≡ line t) ⌝ }
+{
+    &s[2..]
+}
