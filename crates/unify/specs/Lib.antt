@@ -1,0 +1,9 @@
+pub mod Work
+pub mod Arms
+pub mod Frames
+pub mod Made
+pub mod Steps
+pub mod Letters
+pub mod Flat
+pub mod Variants
+pub mod Merges

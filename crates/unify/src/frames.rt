@@ -1,0 +1,101 @@
+// Unification: the parts of two lists, maps or unions are unified one pair after the other.
+ghost use mathlib.Core.Path.{_≡_};
+ghost use mathlib.Core.Bool.{true};
+ghost use Rattle.unify.specs.Arms.{hasParts};
+ghost use Rattle.unify.specs.Work.{Ready, Unifies};
+ghost use Rattle.unify.specs.Steps.{ArmReady, Started, SomePair, Stepped, SomeEnd, Finished};
+use crate::Frame;
+use crate::Unified;
+use crate::arms::arm;
+use crate::flat::has_parts;
+use crate::flat::unify_flat;
+use crate::lists::finish_list;
+use crate::lists::start_list;
+use crate::lists::step_list;
+use crate::maps::finish_map;
+use crate::maps::start_map;
+use crate::maps::step_map;
+use crate::unions::finish_union;
+use crate::unions::skip_outer;
+use crate::unions::start_union;
+use crate::unions::step_union;
+
+// The frame of two operands whose parts are unified.
+fn start(work: &mut [u8], arm: u8, a: usize, ae: usize, b: usize, be: usize, mark: usize) -> Frame
+    requires { ⌜ ArmReady (now work) arm a ae b be mark × (hasParts arm ≡ true) ⌝ }
+    ensures { λ r. ⌜ Started (now (work .entry)) (now (work .exit)) arm a ae b be mark r ⌝ }
+{
+    match arm {
+        6 => start_list(work, arm, a, ae, b, be, mark),
+        7 => start_map(work, arm, a, ae, b, be, mark),
+        _ => start_union(work, arm, a, ae, b, be, mark),
+    }
+}
+
+// Behind the answer of the pair.
+fn step(work: &mut [u8], f: Frame, u: Unified, mark: usize) -> Frame
+    requires { ⌜ SomePair (now work) mark f u ⌝ }
+    ensures { λ r. ⌜ Stepped (now (work .entry)) (now (work .exit)) mark f u r ⌝ }
+{
+    let kind = f.kind;
+    match kind {
+        6 => step_list(work, f, u, mark),
+        7 => step_map(work, f, u, mark),
+        _ => step_union(work, f, u, mark),
+    }
+}
+
+// Nothing is left: what was made is the answer.
+fn finish_done(work: &mut [u8], f: Frame, mark: usize) -> Unified
+    requires { ⌜ SomeEnd (now work) mark f × (f .go ≡ 2) ⌝ }
+    ensures { λ r. ⌜ Finished (now (work .entry)) (now (work .exit)) mark f r ⌝ }
+{
+    let kind = f.kind;
+    match kind {
+        6 => finish_list(work, f, mark),
+        7 => finish_map(work, f, mark),
+        _ => finish_union(work, f, mark),
+    }
+}
+
+// No pair is left: the answer.
+fn finish(work: &mut [u8], f: Frame, mark: usize) -> Unified
+    requires { ⌜ SomeEnd (now work) mark f ⌝ }
+    ensures { λ r. ⌜ Finished (now (work .entry)) (now (work .exit)) mark f r ⌝ }
+{
+    let go = f.go;
+    match go {
+        2 => finish_done(work, f, mark),
+        3 => Unified::Mismatch {
+            a: f.v,
+            ae: f.ve,
+            b: f.w,
+            be: f.we,
+        },
+        _ => Unified::TooLarge,
+    }
+}
+
+// Unifies [a..ae) and [b..be), both below the mark; the answer from the mark on. A pair of parts is lent one slot of 1,024 bytes less
+// behind its own mark, so that the recursion ends.
+pub fn unify(work: &mut [u8], a: usize, ae: usize, b: usize, be: usize, mark: usize) -> Unified
+    requires { ⌜ Ready (now work) a ae b be mark ⌝ }
+    ensures { λ r. ⌜ Unifies (now (work .entry)) (now (work .exit)) a ae b be mark r ⌝ }
+{
+    let r = arm(work, a, ae, b, be);
+    if !has_parts(r) {
+        return unify_flat(work, r, a, ae, b, be, mark);
+    }
+    let mut f = start(work, r, a, ae, b, be, mark);
+    while f.go < 2 {
+        if f.go == 0 {
+            let at = f.at;
+            let e = at + (work.len() - mark - 1024);
+            let u = unify(&mut work[..e], f.v, f.ve, f.w, f.we, at);
+            f = step(work, f, u, mark);
+        } else {
+            f = skip_outer(work, f, mark);
+        }
+    }
+    finish(work, f, mark)
+}
