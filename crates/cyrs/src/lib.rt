@@ -1,0 +1,27 @@
+// The calls.
+mod unifying;
+
+ghost use mathlib.Core.Path.{_≡_};
+ghost use Rattle.semantics.specs.Calls.{unifyCall};
+ghost use Rattle.cyrs.specs.Call.{settledBy};
+pub use unifying::Call;
+pub use unifying::unify_types;
+
+// Unifies two type lines: the number, and its two numbers behind the references.
+#[no_mangle]
+pub extern "C" fn cyrs_unify(
+    a: &[u8],
+    b: &[u8],
+    work: &mut [u8],
+    out: &mut [u8],
+    first: &mut u64,
+    second: &mut u64,
+) -> u32
+    ensures { λ r. ⌜ settledBy r (now (first .exit)) (now (second .exit)) (now (work .exit)) (now (out .exit))
+        ≡ unifyCall (now (a .entry)) (now (b .entry)) (now (work .entry)) (now (out .entry)) ⌝ }
+{
+    let c = unify_types(a, b, work, out);
+    *first = c.first;
+    *second = c.second;
+    c.number
+}
