@@ -1,0 +1,5 @@
+pub mod Run
+pub mod Kids
+pub mod Lines
+pub mod Check
+pub mod Bind

@@ -1,0 +1,12 @@
+// One line of a sheet under a cursor.
+mod field;
+mod line;
+mod table;
+
+pub use field::VarId;
+pub use line::Head;
+pub use line::HirId;
+pub use line::read_line;
+pub use table::class_of;
+pub use table::group1_of;
+pub use table::group2_of;
