@@ -1,0 +1,33 @@
+/* The calls of libcyrs (document 01).
+ *
+ * A slice is passed as its address and its length. `work` has 65,536 bytes. Each call returns 0 or the number of a refusal and always
+ * sets its returned numbers; what both buffers hold afterwards follows from the number:
+ *
+ *   0  accepted: the text at the front of `out`, the rest of `out` as lent, `work` zeros
+ *   2  `work` has not 65,536 bytes: both as lent
+ *   6  a type is too large, 7 `out` is too short, 8 a text is no type line: both zeros
+ *   9  the types do not unify: the expected and then the actual type line at the front of `out`, the rest as lent, `work` zeros
+ *
+ * The slices must not overlap one another.
+ */
+#ifndef CYRS_H
+#define CYRS_H
+
+#include <stddef.h>
+#include <stdint.h>
+
+#ifdef __cplusplus
+extern "C" {
+#endif
+
+/* Unifies two type lines. `out` has 2,048 bytes or more.
+ * 0: *first is the length of the unified type line. 8: *first is 1 or 2, the first text that is no type line.
+ * 9: *first and *second are the lengths of the two types. Otherwise both are 0. */
+uint32_t cyrs_unify(const uint8_t *a, size_t a_len, const uint8_t *b, size_t b_len, uint8_t *work, size_t work_len, uint8_t *out,
+                    size_t out_len, uint64_t *first, uint64_t *second);
+
+#ifdef __cplusplus
+}
+#endif
+
+#endif
