@@ -10,7 +10,7 @@ use crate::limits::{TYPESHEET_OUT_BYTES, UNIFY_OUT_BYTES, WORK_BYTES};
 use crate::random::Random;
 
 /// One call.
-#[derive(Debug, Clone)]
+#[derive(Debug, Clone, PartialEq, Eq, Hash)]
 pub enum Case {
     Sheet {
         sheet: Vec<u8>,

@@ -1,10 +1,12 @@
 //! The differential harness: the Rust reference with document 01's sheets, limits and refusals around it, generators,
 //! fixed answers, and the comparison with the static library.
 
+pub mod bench;
 pub mod calls;
 pub mod cases;
 pub mod differential;
 pub mod external;
+pub mod facts;
 pub mod generate;
 pub mod library;
 pub mod limited;

@@ -1,7 +1,7 @@
 //! The commands of the harness; README.md tells of each.
 
 use cyrs_harness::differential::{self, Library};
-use cyrs_harness::{external, self_check, vectors};
+use cyrs_harness::{bench, external, facts, self_check, vectors};
 use std::env;
 use std::path::Path;
 use std::process::ExitCode;
@@ -9,9 +9,12 @@ use std::process::ExitCode;
 const USAGE: &str = "usage:
   cyrs-harness N [SEED]                  compare the linked library on all fixed and N random cases
   cyrs-harness quick                     the same with 40,000 cases, after a short check of the reference
+  cyrs-harness bench                     measure the linked library and the reference on the same pairs
   cyrs-harness self N [SEED]             check the reference alone, N rounds
   cyrs-harness vectors DIR               write the fixed answers into DIR
-  cyrs-harness typesheet PATH N [SEED]   compare a typesheet program on all fixed and N random sheets";
+  cyrs-harness typesheet PATH N [SEED]   compare a typesheet program on all fixed and N random sheets
+  cyrs-harness facts N M [SEED] [--keep DIR]
+                                         have the checker compute N sheets and M pairs by the definitions";
 
 /// Seeds count up from here unless one is given.
 const SEED: u64 = 1;
@@ -32,6 +35,7 @@ fn main() -> ExitCode {
 fn command(args: &[&str]) -> Result<bool, String> {
     match args {
         ["quick"] => quick(),
+        ["bench"] => Ok(bench::run()),
         ["self", rest @ ..] => {
             let (count, seed) = count_and_seed(rest)?;
             check_reference(count, seed)
@@ -41,6 +45,8 @@ fn command(args: &[&str]) -> Result<bool, String> {
             let (count, seed) = count_and_seed(rest)?;
             external::run(path, count, seed).map_err(|e| format!("{path}: {e}"))
         }
+        ["facts", rest @ .., "--keep", folder] => check_facts(rest, Some(folder)),
+        ["facts", rest @ ..] => check_facts(rest, None),
         rest => {
             let (count, seed) = count_and_seed(rest)?;
             compare(count, seed)
@@ -48,12 +54,11 @@ fn command(args: &[&str]) -> Result<bool, String> {
     }
 }
 
+fn number(text: &str) -> Result<u64, String> {
+    text.replace('_', "").parse().map_err(|_| USAGE.to_string())
+}
+
 fn count_and_seed(args: &[&str]) -> Result<(u64, u64), String> {
-    let number = |text: &str| {
-        text.replace('_', "")
-            .parse::<u64>()
-            .map_err(|_| USAGE.to_string())
-    };
     match args {
         [count] => Ok((number(count)?, SEED)),
         [count, seed] => Ok((number(count)?, number(seed)?)),
@@ -85,6 +90,14 @@ fn check_reference(count: u64, seed: u64) -> Result<bool, String> {
             Ok(false)
         }
     }
+}
+
+fn check_facts(args: &[&str], keep: Option<&str>) -> Result<bool, String> {
+    let Some((sheets, rest)) = args.split_first() else {
+        return Err(USAGE.to_string());
+    };
+    let (pairs, seed) = count_and_seed(rest)?;
+    facts::run(number(sheets)?, pairs, seed, keep.map(Path::new))
 }
 
 fn write_vectors(folder: &str) -> Result<bool, String> {

@@ -24,14 +24,16 @@ pub fn smallest(case: Case, mut differs: impl FnMut(&Case) -> bool) -> Case {
     }
 }
 
-fn weight(case: &Case) -> usize {
+/// How large a case is.
+pub(crate) fn weight(case: &Case) -> usize {
     match case {
         Case::Sheet { sheet, .. } => sheet.len(),
         Case::Pair { a, b, .. } => a.len() + b.len(),
     }
 }
 
-fn smaller(case: &Case) -> Box<dyn Iterator<Item = Case> + '_> {
+/// Cases with something taken away.
+pub(crate) fn smaller(case: &Case) -> Box<dyn Iterator<Item = Case> + '_> {
     match case {
         Case::Sheet { sheet, work, out } => {
             Box::new(smaller_sheets(sheet).map(|sheet| Case::Sheet {

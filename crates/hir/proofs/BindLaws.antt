@@ -14,7 +14,7 @@ use Rattle.semantics.specs.Bytes.{Bytes, front, split}
 use Rattle.semantics.specs.Sheet.{Head, num, variableOf, rank, place, Want, clauses, fits, beyond, under}
 use Rattle.semantics.specs.Walk.{kindType, varTypeIn, binds, boundBy, bound}
 use Rattle.hir.specs.Check.{Laid}
-use Rattle.hir.specs.declared.check.Outline.{Outline}
+use Rattle.hir.specs.declared.valid.Outline.{Outline}
 use Rattle.line.specs.Line.{HeadIs, ReadAs}
 use Rattle.line.specs.declared.line.Head.{Head as Seen}
 use Rattle.line.proofs.LineLaws.{split-some}

@@ -20,9 +20,9 @@ use Rattle.line.specs.declared.line.HirId.{HirId}
 use Rattle.hir.specs.Run.{Run, stopped, passed, before, carryOn, run, behind, andGo}
 use Rattle.hir.specs.Kids.{placeAt, groupSize, twoGroups, kidWants, level}
 use Rattle.hir.specs.Check.{pickC, verdictOf, KidsAs, KidsAsk, FineAs, ChecksAs}
-use Rattle.hir.specs.declared.check.Check.{Check}
-use Rattle.hir.specs.declared.check.Check.the-variants.{Fine, Refused}
-use Rattle.hir.specs.declared.check.Kids.{Kids}
+use Rattle.hir.specs.declared.valid.Check.{Check}
+use Rattle.hir.specs.declared.valid.Check.the-variants.{Fine, Refused}
+use Rattle.hir.specs.declared.valid.Kids.{Kids}
 use Rattle.hir.proofs.RunLaws.{behind-none, behind-append, before-behind, run-append, run-none, behind-passed}
 use Rattle.hir.proofs.PlaceLaws.{classOf, rank-place, Fit, line-unfit, line-wrong, line-fit, class-is, kids-of, Under, first-under, second-under, carry-bad, carry-ok}
 

@@ -17,9 +17,9 @@ use Rattle.line.specs.declared.line.HirId.{HirId}
 use Rattle.hir.specs.Run.{Run, stopped, passed, before, carryOn, run, behind, addAll, finish}
 use Rattle.hir.specs.Lines.{LineAt, Lines, Met}
 use Rattle.hir.specs.Check.{pickC, verdictOf, TopAsk, BoundAs, BindsAs, ClausesAs, RestLaid, RestAs, rest-refused, rest-laid, Laid, OutlineAs, is-refused, is-laid}
-use Rattle.hir.specs.declared.check.Check.{Check}
-use Rattle.hir.specs.declared.check.Check.the-variants.{Fine, Refused}
-use Rattle.hir.specs.declared.check.Outline.{Outline}
+use Rattle.hir.specs.declared.valid.Check.{Check}
+use Rattle.hir.specs.declared.valid.Check.the-variants.{Fine, Refused}
+use Rattle.hir.specs.declared.valid.Outline.{Outline}
 use Rattle.hir.proofs.RunLaws.{before-behind, check-run}
 use Rattle.hir.proofs.PlaceLaws.{classOf, Fit, line-unfit, line-wrong, line-fit, class-is, carry-ok}
 use Rattle.hir.proofs.TopLaws.{add-refused, add-heads, finish-behind, under-first}

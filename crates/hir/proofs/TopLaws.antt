@@ -20,8 +20,8 @@ use Rattle.hir.specs.Run.{Run, stopped, passed, before, carryOn, atEnd, 
 use Rattle.hir.specs.Kids.{kidWants}
 use Rattle.hir.specs.Lines.{LineAt, Lines, no-line, a-line, Ascends, no-binding, ascends}
 use Rattle.hir.specs.Check.{pickC, pickE, verdictOf, FineAs, ChecksAs, KidsAsk, TopAsk, BoundAs, BindsAs, endOf, ClausesAs}
-use Rattle.hir.specs.declared.check.Check.{Check}
-use Rattle.hir.specs.declared.check.Check.the-variants.{Fine, Refused}
+use Rattle.hir.specs.declared.valid.Check.{Check}
+use Rattle.hir.specs.declared.valid.Check.the-variants.{Fine, Refused}
 use Rattle.hir.proofs.RunLaws.{behind-none, behind-append, before-behind, run-append, run-none, behind-passed, check-run}
 use Rattle.hir.proofs.PlaceLaws.{classOf, Fit, line-unfit, line-wrong, line-fit, class-is, class-word, class-none, kids-of, run-line, carry-bad, carry-ok}
 

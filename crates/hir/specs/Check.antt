@@ -13,10 +13,10 @@ use Rattle.line.specs.declared.line.Head.{Head as Seen}
 use Rattle.line.specs.declared.line.HirId.{HirId}
 use Rattle.hir.specs.Run.{Run, stopped, passed, run, behind}
 use Rattle.hir.specs.Kids.{groupSize}
-use Rattle.hir.specs.declared.check.Check.{Check}
-use Rattle.hir.specs.declared.check.Check.the-variants.{Fine, Refused}
-use Rattle.hir.specs.declared.check.Kids.{Kids}
-use Rattle.hir.specs.declared.check.Outline.{Outline}
+use Rattle.hir.specs.declared.valid.Check.{Check}
+use Rattle.hir.specs.declared.valid.Check.the-variants.{Fine, Refused}
+use Rattle.hir.specs.declared.valid.Kids.{Kids}
+use Rattle.hir.specs.declared.valid.Outline.{Outline}
 use Rattle.hir.specs.Lines.{LineAt, Lines, Met, Ascends}
 
 abbrev pub pickC : Bool → ℕ → ℕ → ℕ

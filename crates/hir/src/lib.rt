@@ -1,13 +1,13 @@
 // A sheet under a cursor: whether it is whole (refusals 3, 4 and 5).
 mod bind;
-mod check;
+mod valid;
 
 pub use bind::bind_kind;
-pub use check::Check;
-pub use check::Kids;
-pub use check::Outline;
-pub use check::check_kids;
-pub use check::check_sheet;
-pub use check::class_at;
-pub use check::kids_of;
-pub use check::next_line;
+pub use valid::Check;
+pub use valid::Kids;
+pub use valid::Outline;
+pub use valid::check_kids;
+pub use valid::check_sheet;
+pub use valid::class_at;
+pub use valid::kids_of;
+pub use valid::next_line;

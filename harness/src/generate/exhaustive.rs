@@ -3,6 +3,7 @@
 use super::exprs::{typed_bindings, NODE_VAR, PATH_VAR, RELATIONSHIP_VAR};
 use super::tree::{hex, Line, Tree};
 use crate::limits::SHEET_BYTES;
+use crate::random::Random;
 
 fn leaf(word: &str, fields: &[&str]) -> Line {
     Line::new(word, fields, Vec::new())
@@ -120,6 +121,20 @@ pub fn sheets() -> Vec<(String, Vec<u8>)> {
     let sheets: Vec<(String, Vec<u8>)> = groups.into_iter().map(named).collect();
     assert!(sheets.iter().all(|s| s.1.len() <= SHEET_BYTES));
     sheets
+}
+
+/// A sheet of one to three constructs over operands, all by chance.
+pub fn some(rng: &mut Random) -> Vec<u8> {
+    let operands = operands();
+    let count = rng.between(1, 3);
+    let exprs = (0..count).map(|_| {
+        let (a, b) = (rng.pick(&operands), rng.pick(&operands));
+        match rng.once_in(4) {
+            true => rng.pick(&over_one(a)).clone(),
+            false => rng.pick(&over_two(a, b)).1.clone(),
+        }
+    });
+    sheet_of(exprs.collect())
 }
 
 /// Small types of every shape.

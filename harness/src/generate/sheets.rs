@@ -63,7 +63,7 @@ fn random_tree(rng: &mut Random, fuel: usize) -> Tree {
 }
 
 /// 22 to 24 levels of expressions, sometimes 25.
-fn deep(rng: &mut Random) -> Tree {
+pub fn deep(rng: &mut Random) -> Tree {
     let levels = match rng.once_in(6) {
         true => DEPTH + 1,
         false => rng.between(DEPTH - 2, DEPTH),
@@ -251,7 +251,7 @@ fn crowd(rng: &mut Random) -> Tree {
 }
 
 /// Expressions of types at the limits, met by every construct that unifies or joins.
-fn typed(rng: &mut Random) -> Tree {
+pub fn typed(rng: &mut Random) -> Tree {
     match rng.below(10) {
         0 => return lopsided(rng),
         1 | 2 => return crowd(rng),

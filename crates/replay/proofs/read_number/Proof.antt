@@ -1,0 +1,63 @@
+-- `replay::read_number` is safe and ends. The measure is what is left of the text. The test just before the product bounds it. Assumes nothing.
+use Prim.Native.Nat.{_-_}
+use lib.ListN.{length}
+use borrow.Author.Needs.{needs}
+use Rattle.replay.proofs.read_number.Statement.{statement}
+use Rattle.replay.proofs.read_number.Tie as tie
+
+abbrev Inv-loop : tie.InvT-loop
+Inv-loop src at value₀ i₀ value i = Unit {0}
+
+abbrev μ-loop : tie.MeasureT-loop
+μ-loop src at value₀ i₀ value i = length src - i
+
+loop-holds : tie.Need-loop-holds Inv-loop μ-loop
+loop-holds c = search needs
+
+shared-slice-read-digit : tie.Need-shared-slice-read-digit Inv-loop μ-loop
+shared-slice-read-digit c = search needs
+
+digit-requires : tie.Need-digit-requires Inv-loop μ-loop
+digit-requires c κs = search needs
+
+returns : tie.Need-returns Inv-loop μ-loop
+returns c = search needs
+
+returns-2 : tie.Need-returns-2 Inv-loop μ-loop
+returns-2 c = search needs
+
+mul-value : tie.Need-mul-value Inv-loop μ-loop
+mul-value c = search needs
+
+add-value : tie.Need-add-value Inv-loop μ-loop
+add-value c = search needs
+
+add-i : tie.Need-add-i Inv-loop μ-loop
+add-i c = search needs
+
+loop-less : tie.Need-loop-less Inv-loop μ-loop
+loop-less c = search needs
+
+loop-again : tie.Need-loop-again Inv-loop μ-loop
+loop-again c = search needs
+
+returns-3 : tie.Need-returns-3 Inv-loop μ-loop
+returns-3 c = search needs
+
+pub read-number-spec : {M : Type 1} → statement M
+read-number-spec =
+    tie.close
+    (tie.spec
+    Inv-loop
+    μ-loop
+    loop-holds
+    shared-slice-read-digit
+    digit-requires
+    returns
+    returns-2
+    mul-value
+    add-value
+    add-i
+    loop-less
+    loop-again
+    returns-3)

@@ -1,0 +1,364 @@
+// Replays the stored calls of harness/vectors/pairs.txt, from standard input, and writes one line of counts.
+use libc::STDIN_FILENO;
+use libc::STDOUT_FILENO;
+ghost use Prim.Native.Nat.{_≤_};
+
+// What the two buffers are filled with before a call: bytes that no text has.
+const WORK_FILL: u8 = 170;
+
+const OUT_FILL: u8 = 187;
+
+enum Verdict {
+    Same,
+    Differs,
+    Skipped,
+}
+
+// A case's verdict and where the next one starts: at the case itself where it is malformed.
+struct Outcome {
+    verdict: Verdict,
+    next: usize,
+}
+
+// A number and the place behind it.
+struct Number {
+    value: usize,
+    next: usize,
+}
+
+// The eight numbers of a header line and the place behind it.
+struct Header {
+    values: [usize; 8],
+    next: usize,
+}
+
+// What a call must answer.
+struct Want {
+    number: usize,
+    first: usize,
+    second: usize,
+}
+
+// How many cases were met, differ and were skipped, the index of the first that differs, and whether the
+// case behind the last one is malformed.
+struct Tally {
+    met: u64,
+    differ: u64,
+    skipped: u64,
+    first: u64,
+    malformed: bool,
+}
+
+// The digit's value, or 10.
+fn digit(b: u8) -> usize
+    ensures { λ r. ⌜ r ≤ 10 ⌝ }
+{
+    if b < 48 {
+        return 10;
+    }
+    if b > 57 {
+        return 10;
+    }
+    (b - 48) as usize
+}
+
+// The decimal number at `at`, at most seven digits of it.
+fn read_number(src: &[u8], at: usize) -> Number {
+    let mut value: usize = 0;
+    let mut i = at;
+    while i < src.len() {
+        let d = digit(src[i]);
+        if d > 9 {
+            return Number {
+                value: value,
+                next: i,
+            };
+        }
+        if value > 999999 {
+            return Number {
+                value: value,
+                next: i,
+            };
+        }
+        value = value * 10 + d;
+        i += 1;
+    }
+    Number {
+        value: value,
+        next: i,
+    }
+}
+
+// The place behind `at` where the byte `b` stands there, or else the end.
+fn past(src: &[u8], at: usize, b: u8) -> usize {
+    if at < src.len() {
+        if src[at] == b {
+            return at + 1;
+        }
+    }
+    src.len()
+}
+
+// The number at `at` and the place behind its separator, or else the end.
+fn field(src: &[u8], at: usize, separator: u8) -> Number {
+    let n = read_number(src, at);
+    let end = n.next;
+    if end <= at {
+        return Number {
+            value: 0,
+            next: src.len(),
+        };
+    }
+    Number {
+        value: n.value,
+        next: past(src, end, separator),
+    }
+}
+
+// The byte behind the header's number `i`.
+fn separator(i: usize) -> u8 {
+    if i < 7 { b' ' } else { b'\n' }
+}
+
+// The header line at `at`: it ends at the end of `src` where it is malformed.
+fn read_header(src: &[u8], at: usize) -> Header {
+    let mut values = [0usize; 8];
+    let mut next = past(src, past(src, at, b'U'), b' ');
+    let mut i = 0;
+    while i < 8 {
+        let f = field(src, next, separator(i));
+        values[i] = f.value;
+        next = f.next;
+        i += 1;
+    }
+    Header {
+        values: values,
+        next: next,
+    }
+}
+
+// The end of the part of `n` bytes from `from`, where an LF stands, or else the end.
+fn part_end(src: &[u8], from: usize, n: usize) -> usize {
+    if from < src.len() {
+        if n < src.len() - from {
+            if src[from + n] == b'\n' {
+                return from + n;
+            }
+        }
+    }
+    src.len()
+}
+
+fn all_are(s: &[u8], b: u8) -> bool {
+    let mut i = 0;
+    while i < s.len() {
+        if s[i] != b {
+            return false;
+        }
+        i += 1;
+    }
+    true
+}
+
+// Whether `s` is `t` and then `fill` to its end.
+fn is_then(s: &[u8], t: &[u8], fill: u8) -> bool {
+    let n = t.len();
+    if n > s.len() {
+        return false;
+    }
+    if !text::same(&s[..n], t) {
+        return false;
+    }
+    all_are(&s[n..], fill)
+}
+
+// Whether both buffers hold what the number says.
+fn is_left(number: u32, work: &[u8], out: &[u8], expected: &[u8]) -> bool {
+    let mut in_work = 0;
+    let mut in_out = OUT_FILL;
+    match number {
+        0 | 9 => {}
+        1 | 2 => {
+            in_work = WORK_FILL;
+        }
+        _ => {
+            in_out = 0;
+        }
+    }
+    if !all_are(work, in_work) {
+        return false;
+    }
+    is_then(out, expected, in_out)
+}
+
+fn is_answer(c: cyrs::Call, want: Want) -> bool {
+    if c.number as u64 != want.number as u64 {
+        return false;
+    }
+    if c.first != want.first as u64 {
+        return false;
+    }
+    c.second == want.second as u64
+}
+
+// Calls, and says whether the answer and the buffers are as the case says.
+fn call(
+    a: &[u8],
+    b: &[u8],
+    work: &mut [u8],
+    out: &mut [u8],
+    want: Want,
+    expected: &[u8],
+) -> Verdict {
+    let c = cyrs::unify_types(a, b, work, out);
+    if !is_answer(c, want) {
+        return Verdict::Differs;
+    }
+    if is_left(c.number, work, out, expected) {
+        return Verdict::Same;
+    }
+    Verdict::Differs
+}
+
+// Lends a work area of `w` bytes and an output of `o`, where there is room for them.
+fn lend(a: &[u8], b: &[u8], w: usize, o: usize, want: Want, expected: &[u8]) -> Verdict {
+    let mut work = [WORK_FILL; 65537];
+    let mut out = [OUT_FILL; 65536];
+    if w > 65537 {
+        return Verdict::Skipped;
+    }
+    if o > 65536 {
+        return Verdict::Skipped;
+    }
+    call(a, b, &mut work[..w], &mut out[..o], want, expected)
+}
+
+// The case at `at`. A malformed part ends at the end of `src`, and so do those behind it.
+fn replay_case(src: &[u8], at: usize) -> Outcome {
+    let h = read_header(src, at);
+    let v = h.values;
+    let a = h.next;
+    let a_end = part_end(src, a, v[5]);
+    let b = past(src, a_end, b'\n');
+    let b_end = part_end(src, b, v[6]);
+    let e = past(src, b_end, b'\n');
+    let e_end = part_end(src, e, v[7]);
+    let malformed = Outcome {
+        verdict: Verdict::Skipped,
+        next: at,
+    };
+    if e_end >= src.len() {
+        return malformed;
+    }
+    if e > e_end {
+        return malformed;
+    }
+    if b_end > e {
+        return malformed;
+    }
+    if b > b_end {
+        return malformed;
+    }
+    if a_end > b {
+        return malformed;
+    }
+    if a > a_end {
+        return malformed;
+    }
+    let want = Want {
+        number: v[0],
+        first: v[1],
+        second: v[2],
+    };
+    let verdict = lend(
+        &src[a..a_end],
+        &src[b..b_end],
+        v[3],
+        v[4],
+        want,
+        &src[e..e_end],
+    );
+    Outcome {
+        verdict: verdict,
+        next: e_end + 1,
+    }
+}
+
+// One more case. There are fewer cases than bytes, so no sum wraps.
+fn tallied(t: Tally, v: Verdict) -> Tally {
+    let mut n = t;
+    n.met = std::num::wrapping_add_u64(t.met, 1);
+    match v {
+        Verdict::Same => {}
+        Verdict::Skipped => {
+            n.skipped = std::num::wrapping_add_u64(t.skipped, 1);
+        }
+        Verdict::Differs => {
+            n.differ = std::num::wrapping_add_u64(t.differ, 1);
+            if t.differ == 0 {
+                n.first = t.met;
+            }
+        }
+    }
+    n
+}
+
+fn broken(t: Tally) -> Tally {
+    Tally {
+        met: t.met,
+        differ: t.differ,
+        skipped: t.skipped,
+        first: t.first,
+        malformed: true,
+    }
+}
+
+fn replay_all(src: &[u8]) -> Tally {
+    let mut t = Tally {
+        met: 0,
+        differ: 0,
+        skipped: 0,
+        first: 0,
+        malformed: false,
+    };
+    let mut at = 0;
+    while at < src.len() {
+        let o = replay_case(src, at);
+        let next = o.next;
+        if next <= at {
+            return broken(t);
+        }
+        let verdict = o.verdict;
+        t = tallied(t, verdict);
+        at = next;
+    }
+    t
+}
+
+fn say(t: Tally) {
+    io::print_decimal(STDOUT_FILENO, std::num::wrapping_sub_u64(t.met, t.skipped));
+    io::write_all(STDOUT_FILENO, b" replayed, ");
+    io::print_decimal(STDOUT_FILENO, t.differ);
+    io::write_all(STDOUT_FILENO, b" differ, ");
+    io::print_decimal(STDOUT_FILENO, t.skipped);
+    io::write_all(STDOUT_FILENO, b" skipped");
+    if t.differ > 0 {
+        io::write_all(STDOUT_FILENO, b", the first that differs is case ");
+        io::print_decimal(STDOUT_FILENO, t.first);
+    }
+    if t.malformed {
+        io::write_all(STDOUT_FILENO, b", malformed at case ");
+        io::print_decimal(STDOUT_FILENO, t.met);
+    }
+    io::write_all(STDOUT_FILENO, b"\n");
+}
+
+fn main() {
+    let mut src = [0u8; 393216];
+    let n = io::read_full(STDIN_FILENO, &mut src);
+    if n == 393216 {
+        io::write_all(STDOUT_FILENO, b"the input is too long\n");
+        return;
+    }
+    say(replay_all(&src[..n]));
+}
