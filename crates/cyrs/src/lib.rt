@@ -1,9 +1,13 @@
 // The calls.
+mod checking;
 mod unifying;
 
 ghost use mathlib.Core.Path.{_≡_};
 ghost use Rattle.semantics.specs.Calls.{unifyCall};
 ghost use Rattle.cyrs.specs.Call.{settledBy};
+ghost use Rattle.cyrs.specs.Checking.{checkedBy, checkCall};
+pub use checking::Checked;
+pub use checking::check_sheet;
 pub use unifying::Call;
 pub use unifying::unify_types;
 
@@ -23,5 +27,15 @@ pub extern "C" fn cyrs_unify(
     let c = unify_types(a, b, work, out);
     *first = c.first;
     *second = c.second;
+    c.number
+}
+
+// Whether a sheet can be read: the number, and its line behind the reference. The call that types a sheet will replace it.
+#[no_mangle]
+pub extern "C" fn cyrs_check_sheet(sheet: &[u8], place: &mut u64) -> u32
+    ensures { λ r. ⌜ checkedBy r (now (place .exit)) ≡ checkCall (now (sheet .entry)) ⌝ }
+{
+    let c = check_sheet(sheet);
+    *place = c.place;
     c.number
 }

@@ -5,3 +5,4 @@ pub mod ValueLaws
 pub mod FillLaws
 pub mod LineLaws
 pub mod ReadLaws
+pub mod Tables

@@ -1,349 +1,44 @@
-// The rows of the words as numbers, made by tools/gen_table.py; proofs/Rows.antt says that they are the rows of `semantics`.
-// A word is 1 to 55, in the order of the definitions, and 0 where no word stands.
+// What the words say, in tables of plain numbers: each is a `match`, which becomes a table in constant memory. proofs/Rows.antt says
+// that they are the rows of `semantics`. A word is 1 to 55, in the order of the definitions, and 0 where no word stands.
 ghost use mathlib.Core.Path.{_≡_};
-ghost use Prim.Native.Nat.{_<_};
 ghost use lib.ListN.{getD};
-ghost use Rattle.line.specs.Arrays.{classes, shapes, slots, groups, seconds};
+ghost use Rattle.line.specs.Arrays.{classes, shapes, slots, groups, seconds, fieldRows, kidRows};
 ghost use Rattle.line.specs.Rows.{numberIn};
 ghost use Rattle.semantics.specs.Sheet.{words};
 
-// Where a word may stand: the rank of its place; 14 for no word.
-const CLASS: [usize; 56] = [
-    14,
-    0,
-    1,
-    3,
-    2,
-    2,
-    2,
-    2,
-    2,
-    2,
-    2,
-    2,
-    2,
-    2,
-    2,
-    4,
-    5,
-    5,
-    5,
-    6,
-    6,
-    7,
-    8,
-    9,
-    10,
-    10,
-    13,
-    13,
-    13,
-    13,
-    13,
-    13,
-    13,
-    13,
-    13,
-    13,
-    13,
-    13,
-    13,
-    13,
-    11,
-    13,
-    13,
-    13,
-    13,
-    13,
-    13,
-    13,
-    13,
-    13,
-    13,
-    13,
-    12,
-    12,
-    12,
-    12,
-];
-
-// How many fields, and their shapes, base 32, the first lowest.
-const SHAPES: [u64; 56] = [
-    0,
-    193,
-    12514,
-    0,
-    33,
-    0,
-    0,
-    0,
-    5154,
-    5154,
-    225,
-    161,
-    161,
-    5154,
-    165155,
-    321,
-    289,
-    5346,
-    1250,
-    289,
-    5346,
-    289,
-    161,
-    166147,
-    165123,
-    173253101831,
-    0,
-    33,
-    417,
-    449,
-    289,
-    225,
-    289,
-    289,
-    0,
-    289,
-    0,
-    97,
-    161,
-    161,
-    289,
-    165155,
-    129,
-    33,
-    5218,
-    33,
-    0,
-    0,
-    1250,
-    33,
-    40035,
-    161,
-    289,
-    289,
-    9442,
-    289,
-];
-
-// Which of a line's numbers is its flag number, and its count: base 8; 7 for none.
-const SLOTS: [usize; 56] = [
-    63,
-    63,
-    63,
-    63,
-    63,
-    63,
-    63,
-    63,
-    8,
-    15,
-    63,
-    7,
-    7,
-    15,
-    15,
-    63,
-    63,
-    7,
-    63,
-    63,
-    7,
-    63,
-    7,
-    15,
-    8,
-    44,
-    63,
-    63,
-    63,
-    63,
-    63,
-    63,
-    63,
-    63,
-    63,
-    63,
-    63,
-    56,
-    7,
-    7,
-    63,
-    15,
-    63,
-    63,
-    8,
-    63,
-    63,
-    63,
-    56,
-    56,
-    57,
-    7,
-    63,
-    63,
-    63,
-    63,
-];
-
-// Children: class * 32 + base * 8 + per * 2 + bit, for base + per * count + bit * (bits of the flag number) lines; then a second group.
-const GROUP1: [usize; 56] = [
-    0,
-    0,
-    0,
-    0,
-    264,
-    264,
-    264,
-    424,
-    130,
-    130,
-    424,
-    162,
-    194,
-    418,
-    418,
-    424,
-    432,
-    226,
-    424,
-    424,
-    226,
-    0,
-    290,
-    322,
-    226,
-    226,
-    0,
-    0,
-    0,
-    0,
-    0,
-    0,
-    0,
-    0,
-    0,
-    424,
-    432,
-    425,
-    418,
-    354,
-    424,
-    418,
-    432,
-    424,
-    421,
-    424,
-    432,
-    264,
-    433,
-    264,
-    425,
-    424,
-    0,
-    424,
-    0,
-    424,
-];
-
-const GROUP2: [usize; 56] = [
-    0,
-    0,
-    0,
-    0,
-    0,
-    0,
-    0,
-    0,
-    417,
-    0,
-    0,
-    0,
-    0,
-    0,
-    0,
-    0,
-    0,
-    0,
-    0,
-    0,
-    0,
-    0,
-    0,
-    0,
-    417,
-    417,
-    0,
-    0,
-    0,
-    0,
-    0,
-    0,
-    0,
-    0,
-    0,
-    0,
-    0,
-    0,
-    0,
-    0,
-    0,
-    0,
-    0,
-    0,
-    0,
-    0,
-    0,
-    0,
-    0,
-    425,
-    0,
-    386,
-    0,
-    0,
-    0,
-    0,
-];
-
-// Where the word may stand.
+// Where the word may stand: the rank of its place; 14 for no word.
 pub fn class_of(word: usize) -> usize
-    requires { ⌜ word < 56 ⌝ }
     ensures { λ r. ⌜ r ≡ getD classes word 0 ⌝ }
 {
-    CLASS[word]
+    kids_row(word) % 16
 }
 
-// The word's fields.
+// How many fields the word has, and their shapes, base 32, the first lowest.
 pub fn shapes_of(word: usize) -> u64
-    requires { ⌜ word < 56 ⌝ }
     ensures { λ r. ⌜ r ≡ getD shapes word 0 ⌝ }
 {
-    SHAPES[word]
+    fields_row(word) / 64
 }
 
-// Where the word's numbers go.
+// Which of a line's numbers is its flag number, and its count: base 8; 7 for none.
 pub fn slots_of(word: usize) -> usize
-    requires { ⌜ word < 56 ⌝ }
     ensures { λ r. ⌜ r ≡ getD slots word 0 ⌝ }
 {
-    SLOTS[word]
+    (fields_row(word) % 64) as usize
 }
 
-// The word's first children.
+// The word's children: class * 32 + base * 8 + per * 2 + bit, for base + per * count + bit * (bits of the flag number) lines.
 pub fn group1_of(word: usize) -> usize
-    requires { ⌜ word < 56 ⌝ }
     ensures { λ r. ⌜ r ≡ getD groups word 0 ⌝ }
 {
-    GROUP1[word]
+    kids_row(word) / 16 % 512
 }
 
 // The children behind them.
 pub fn group2_of(word: usize) -> usize
-    requires { ⌜ word < 56 ⌝ }
     ensures { λ r. ⌜ r ≡ getD seconds word 0 ⌝ }
 {
-    GROUP2[word]
+    kids_row(word) / 8192
 }
 
 // The word whose letters, a byte each behind a 1, make up this number; 0 for none.
@@ -406,6 +101,138 @@ pub fn word_of(code: u64) -> usize
         24535410 => 31, // var
         24343666 => 30, // str
         23686772 => 28, // int
+        _ => 0,
+    }
+}
+
+// The rows, made by tools/line_table.py.
+
+// Shapes and slots.
+fn fields_row(word: usize) -> u64
+    ensures { λ r. ⌜ r ≡ getD fieldRows word 0 ⌝ }
+{
+    match word {
+        0 => 63, // -
+        1 => 12415, // cyrs
+        2 => 800959, // b
+        3 => 63, // end
+        4 => 2175, // mat
+        5 => 63, // cre
+        6 => 63, // mer
+        7 => 63, // whe
+        8 => 329864, // wit
+        9 => 329871, // ret
+        10 => 14463, // unw
+        11 => 10311, // set
+        12 => 10311, // rem
+        13 => 329871, // del
+        14 => 10569935, // cal
+        15 => 20607, // pro
+        16 => 18559, // sp
+        17 => 342151, // sl
+        18 => 80063, // sm
+        19 => 18559, // rp
+        20 => 342151, // rl
+        21 => 18559, // lab
+        22 => 10311, // parts
+        23 => 10633423, // part
+        24 => 10567880, // nod
+        25 => 11088198517228, // rel
+        26 => 63, // null
+        27 => 2175, // bool
+        28 => 26751, // int
+        29 => 28799, // flt
+        30 => 18559, // str
+        31 => 14463, // var
+        32 => 18559, // par
+        33 => 18559, // unr
+        34 => 63, // exi
+        35 => 18559, // prop
+        36 => 63, // idx
+        37 => 6264, // sli
+        38 => 10311, // lis
+        39 => 10311, // map
+        40 => 18559, // key
+        41 => 10569935, // call
+        42 => 8319, // bin
+        43 => 2175, // una
+        44 => 333960, // case
+        45 => 2175, // isn
+        46 => 63, // in
+        47 => 63, // pat
+        48 => 80056, // lcp
+        49 => 2168, // pcp
+        50 => 2562297, // lpr
+        51 => 10311, // mpr
+        52 => 18559, // cop
+        53 => 18559, // com
+        54 => 604351, // sho
+        55 => 18559, // ali
+        _ => 0,
+    }
+}
+
+// Class and both groups.
+fn kids_row(word: usize) -> usize
+    ensures { λ r. ⌜ r ≡ getD kidRows word 0 ⌝ }
+{
+    match word {
+        0 => 14, // -
+        1 => 0, // cyrs
+        2 => 1, // b
+        3 => 3, // end
+        4 => 4226, // mat
+        5 => 4226, // cre
+        6 => 4226, // mer
+        7 => 6786, // whe
+        8 => 3418146, // wit
+        9 => 2082, // ret
+        10 => 6786, // unw
+        11 => 2594, // set
+        12 => 3106, // rem
+        13 => 6690, // del
+        14 => 6690, // cal
+        15 => 6788, // pro
+        16 => 6917, // sp
+        17 => 3621, // sl
+        18 => 6789, // sm
+        19 => 6790, // rp
+        20 => 3622, // rl
+        21 => 7, // lab
+        22 => 4648, // parts
+        23 => 5161, // part
+        24 => 3419690, // nod
+        25 => 3419690, // rel
+        26 => 13, // null
+        27 => 13, // bool
+        28 => 13, // int
+        29 => 13, // flt
+        30 => 13, // str
+        31 => 13, // var
+        32 => 13, // par
+        33 => 13, // unr
+        34 => 13, // exi
+        35 => 6797, // prop
+        36 => 6925, // idx
+        37 => 6813, // sli
+        38 => 6701, // lis
+        39 => 5677, // map
+        40 => 6795, // key
+        41 => 6701, // call
+        42 => 6925, // bin
+        43 => 6797, // una
+        44 => 6749, // case
+        45 => 6797, // isn
+        46 => 6925, // in
+        47 => 4237, // pat
+        48 => 6941, // lcp
+        49 => 3485837, // pcp
+        50 => 6813, // lpr
+        51 => 3168909, // mpr
+        52 => 12, // cop
+        53 => 6796, // com
+        54 => 12, // sho
+        55 => 6796, // ali
         _ => 0,
     }
 }

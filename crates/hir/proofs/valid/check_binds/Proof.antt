@@ -1,10 +1,8 @@
 use borrow.Author.Needs.{needs}
-use lib.ListN.{length, drop}
-use Rattle.semantics.specs.Bytes.{split}
+use lib.ListN.{length}
 use mathlib.Core.Path.{_≡_, refl, sym, _∙_, ap}
 use Prim.Native.Nat.{_+_, _-_, _*_}
 use native.Mathlib.Omega.{arith}
-use Rattle.hir.proofs.PlaceLaws.{word-known}
 use Rattle.hir.proofs.TopLaws.{BindsInv, binds-start, bound-room, bound-done, bound-wrong, bound-low, bound-less, bound-on}
 use Rattle.hir.proofs.valid.check_binds.Statement.{statement}
 use Rattle.hir.proofs.valid.check_binds.Tie as tie
@@ -30,7 +28,7 @@ read-line-requires c κs = c .loop .inv .inside
 
 -- src/valid.rt:142:12
 class-of-requires : tie.Need-class-of-requires Inv-loop μ-loop
-class-of-requires c κs = let s = c .before .before .before .args .sheet .now in let p = c .before .loop .p in word-known s p (c .read-line .result) (split 10 (drop p s)) (c .read-line .ensures)
+class-of-requires c κs = search needs
 
 -- src/valid.rt:143:13
 returns : tie.Need-returns Inv-loop μ-loop

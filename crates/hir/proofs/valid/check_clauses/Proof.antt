@@ -33,7 +33,7 @@ read-line-requires c κs = c .loop .inv .inside
 
 -- src/valid.rt:188:12
 class-of-requires : tie.Need-class-of-requires Inv-loop μ-loop
-class-of-requires c κs = let s = c .before .before .before .args .sheet .now in let p = c .before .loop .p in word-known s p (c .read-line .result) (split 10 (drop p s)) (c .read-line .ensures)
+class-of-requires c κs = search needs
 
 -- src/valid.rt:189:13
 check-end-requires : tie.Need-check-end-requires Inv-loop μ-loop

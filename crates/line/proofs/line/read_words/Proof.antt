@@ -1,6 +1,6 @@
 use mathlib.Core.Path.{_≡_, refl, sym, _∙_, ap}
 use native.Mathlib.Omega.{arith}
-use Rattle.line.proofs.ReadLaws.{word-small, read-unknown, read-count, read-many, read-filled}
+use Rattle.line.proofs.ReadLaws.{read-unknown, read-count, read-many, read-filled}
 use borrow.Author.Needs.{needs}
 use Rattle.line.proofs.line.read_words.Statement.{statement}
 use Rattle.line.proofs.line.read_words.Tie as tie
@@ -54,7 +54,7 @@ returns c = rw (c .head-of .ensures) (refl, read-unknown _ _ _ (c .before .befor
 
 -- src/line.rt:135:9
 shapes-of-requires : tie.Need-shapes-of-requires
-shapes-of-requires c κs = word-small _ _ _ (c .before .before .before .before .before .before .pre) (c .before .before .before .before .field-end .ensures) (λ i. omega (arith, c .before .before .before .before .before .shared-slice-known .given i)) _ _ (c .before .before .word-code .ensures) (c .before .word-of .ensures)
+shapes-of-requires c κs = search needs
 
 -- src/line.rt:137:8
 commas-requires : tie.Need-commas-requires
@@ -78,7 +78,7 @@ add-read-fields c = search needs
 
 -- src/line.rt:140:54
 slots-of-requires : tie.Need-slots-of-requires
-slots-of-requires c κs = word-small _ _ _ (c .before .before .before .before .before .before .before .before .before .pre) (c .before .before .before .before .before .before .before .field-end .ensures) (λ i. omega (arith, c .before .before .before .before .before .before .before .before .shared-slice-known .given i)) _ _ (c .before .before .before .before .before .word-code .ensures) (c .before .before .before .before .word-of .ensures)
+slots-of-requires c κs = search needs
 
 -- src/line.rt:140:9
 read-fields-requires : tie.Need-read-fields-requires

@@ -1,24 +1,14 @@
--- `group2_of`: the array is the list. Assumes nothing.
-use mathlib.Core.Path.{refl}
-use Rattle.line.specs.Arrays.{seconds}
+-- `group2_of`: what the row says. Assumes nothing.
+use Rattle.line.proofs.Tables.{second-at}
 use borrow.Author.Needs.{needs}
 use Rattle.line.proofs.table.group2_of.Statement.{statement}
 use Rattle.line.proofs.table.group2_of.Tie as tie
-use Rattle.line.proofs.table.group2_of.Reads as reads
-use Rattle.line.proofs.table.group2_of.Lts as lts
 
--- src/table.rt:61:5
-mul-result : tie.Need-mul-result
-mul-result c = search needs
+kids-row-requires : tie.Need-kids-row-requires
+kids-row-requires c κs = search needs
 
--- src/table.rt:61:5
-array-read-result : tie.Need-array-read-result
-array-read-result c = search needs
-
--- src/table.rt:57:1
 returns : tie.Need-returns
-unfolding seconds
-returns c = refl
+returns c = rw (c .kids-row .ensures) (second-at _)
 
 pub group2-of-spec : {M : Type 1} → statement M
-group2-of-spec = tie.close (tie.spec mul-result array-read-result returns)
+group2-of-spec = tie.close (tie.spec kids-row-requires returns)

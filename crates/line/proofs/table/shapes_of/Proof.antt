@@ -1,24 +1,14 @@
--- `shapes_of`: the array is the list. Assumes nothing.
-use mathlib.Core.Path.{refl}
-use Rattle.line.specs.Arrays.{shapes}
+-- `shapes_of`: what the row says. Assumes nothing.
+use Rattle.line.proofs.Tables.{shapes-at}
 use borrow.Author.Needs.{needs}
 use Rattle.line.proofs.table.shapes_of.Statement.{statement}
 use Rattle.line.proofs.table.shapes_of.Tie as tie
-use Rattle.line.proofs.table.shapes_of.Reads as reads
-use Rattle.line.proofs.table.shapes_of.Lts as lts
 
--- src/table.rt:37:5
-mul-result : tie.Need-mul-result
-mul-result c = search needs
+fields-row-requires : tie.Need-fields-row-requires
+fields-row-requires c κs = search needs
 
--- src/table.rt:37:5
-array-read-result : tie.Need-array-read-result
-array-read-result c = search needs
-
--- src/table.rt:33:1
 returns : tie.Need-returns
-unfolding shapes
-returns c = refl
+returns c = rw (c .fields-row .ensures) (shapes-at _)
 
 pub shapes-of-spec : {M : Type 1} → statement M
-shapes-of-spec = tie.close (tie.spec mul-result array-read-result returns)
+shapes-of-spec = tie.close (tie.spec fields-row-requires returns)
