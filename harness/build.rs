@@ -1,12 +1,12 @@
-//! Links the static library named by CYRS_LIB, if it is set, and tells the harness which of the two calls it exports.
+//! Links the static library named by CYRS_LIB, if it is set, and tells the harness which of the calls it exports.
 //!
-//! CYRS_LIB: the path of the archive (libcyrs.a). CYRS_CALLS: the calls in it, `cyrs_unify`, `cyrs_infer_types` or both
-//! with a comma between; both if it is not set.
+//! CYRS_LIB: the path of the archive (libcyrs.a). CYRS_CALLS: the calls in it, some of `cyrs_unify`, `cyrs_infer_types`
+//! and `cyrs_check_sheet` with commas between; the first two if it is not set.
 
 use std::env;
 use std::path::Path;
 
-const CALLS: [&str; 2] = ["cyrs_unify", "cyrs_infer_types"];
+const CALLS: [&str; 3] = ["cyrs_unify", "cyrs_infer_types", "cyrs_check_sheet"];
 
 fn main() {
     println!("cargo:rerun-if-env-changed=CYRS_LIB");
@@ -25,7 +25,7 @@ fn main() {
         .unwrap_or_else(|e| panic!("CYRS_LIB={archive}: {e}"));
     println!("cargo:rerun-if-changed={}", path.display());
     link(&path);
-    let wanted = env::var("CYRS_CALLS").unwrap_or_else(|_| CALLS.join(","));
+    let wanted = env::var("CYRS_CALLS").unwrap_or_else(|_| CALLS[..2].join(","));
     for call in wanted.split(',').map(str::trim) {
         assert!(CALLS.contains(&call), "CYRS_CALLS: no such call: {call}");
         println!("cargo:rustc-cfg={call}");

@@ -1,14 +1,20 @@
-//! The exported unification against the reference's `unify` on the same pairs, in one run. Both sides read two type lines and write one.
+//! The linked calls against the reference on the same inputs, in one run. Of unification both sides read two type lines and write
+//! one; of validation the library only reads, and the reference's reader makes the statement too.
 
 use crate::calls;
-use crate::library::unify_call;
-use crate::limits::{UNIFY_OUT_BYTES, WORK_BYTES};
+use crate::generate::sheets::{deep_to, long};
+use crate::generate::tree::{Line, Tree};
+use crate::library::{check_call, unify_call, CheckCall, UnifyCall};
+use crate::limits::{DEPTH, NAME_BYTES, SHEET_BYTES, UNIFY_OUT_BYTES, WORK_BYTES};
+use crate::random::Random;
 use crate::reference::stand_ins::SmolStr;
 use crate::reference::ty::Type;
 use crate::reference::unify::unify;
 use crate::type_line::{read_type_line, type_line};
 use std::hint::black_box;
 use std::time::Instant;
+
+const ROUNDS: usize = 25;
 
 /// Pairs of one kind.
 struct Family {
@@ -90,19 +96,17 @@ fn families() -> Vec<Family> {
     ]
 }
 
-/// The least nanoseconds a pair took over `rounds` rounds of `repeat` turns.
-fn nanoseconds(pairs: &[(Vec<u8>, Vec<u8>)], mut call: impl FnMut(&[u8], &[u8])) -> f64 {
-    let repeat = 400;
-    let rounds = 25;
+/// The least nanoseconds an input took over the rounds of `repeat` turns.
+fn nanoseconds<T>(inputs: &[T], repeat: usize, mut call: impl FnMut(&T)) -> f64 {
     let mut least = f64::MAX;
-    for _ in 0..rounds {
+    for _ in 0..ROUNDS {
         let start = Instant::now();
         for _ in 0..repeat {
-            for (a, b) in pairs {
-                call(black_box(a), black_box(b));
+            for input in inputs {
+                call(black_box(input));
             }
         }
-        let taken = start.elapsed().as_secs_f64() * 1e9 / (repeat * pairs.len()) as f64;
+        let taken = start.elapsed().as_secs_f64() * 1e9 / (repeat * inputs.len()) as f64;
         least = least.min(taken);
     }
     least
@@ -115,29 +119,41 @@ fn bare(a: &[u8], b: &[u8]) -> Option<Vec<u8>> {
     unify(&a, &b).ok().map(|ty| type_line(&ty))
 }
 
-/// Prints a line for each family; false if no library is linked.
+/// Prints a table for each linked call; false if there is none.
 pub fn run() -> bool {
-    let Some(linked) = unify_call() else {
+    let (unify, check) = (unify_call(), check_call());
+    if let Some(linked) = unify {
+        unification(linked);
+    }
+    if let Some(linked) = check {
+        validation(linked);
+    }
+    let any = unify.is_some() || check.is_some();
+    if !any {
         println!("no library is linked (CYRS_LIB was not set at build time): nothing measured");
-        return false;
-    };
+    }
+    any
+}
+
+fn unification(linked: UnifyCall) {
+    let repeat = 400;
     let mut work = vec![0; WORK_BYTES];
     let mut out = vec![0; UNIFY_OUT_BYTES];
-    println!("nanoseconds for a pair, least of 25 rounds");
+    println!("nanoseconds for a pair, least of {ROUNDS} rounds");
     println!(
         "family         library   reference call   reference unify, no buffers   clearing alone"
     );
     for f in families() {
-        let ours = nanoseconds(&f.pairs, |a, b| {
+        let ours = nanoseconds(&f.pairs, repeat, |(a, b)| {
             black_box(linked(a, b, &mut work, &mut out));
         });
-        let theirs = nanoseconds(&f.pairs, |a, b| {
+        let theirs = nanoseconds(&f.pairs, repeat, |(a, b)| {
             black_box(calls::unify_call(a, b, &mut work, &mut out));
         });
-        let plain = nanoseconds(&f.pairs, |a, b| {
+        let plain = nanoseconds(&f.pairs, repeat, |(a, b)| {
             black_box(bare(a, b));
         });
-        let clear = nanoseconds(&f.pairs, |_, _| {
+        let clear = nanoseconds(&f.pairs, repeat, |_| {
             black_box(&mut work).fill(0);
         });
         println!(
@@ -145,5 +161,92 @@ pub fn run() -> bool {
             f.name
         );
     }
-    true
+}
+
+// ---- validation
+
+const SMALL: [&str; 2] = [
+    "cyrs,1\nb,0,N\nret,0,2\npro,-\nprop,6e616d65\nvar,0\npro,6e\ncall,73697a65,0,1\nvar,0\nend\n",
+    "cyrs,1\nb,0,N\nret,1,1\npro,-\nbin,10\nprop,616765\nvar,0\nint,30\nend\n",
+];
+
+/// A sheet of as many clauses as it has room for.
+fn filled(mut clauses: impl FnMut() -> Vec<Line>) -> Vec<u8> {
+    let mut tree = Tree::default();
+    loop {
+        let full = tree.text();
+        tree.clauses.extend(clauses());
+        if tree.text().len() > SHEET_BYTES {
+            return full;
+        }
+    }
+}
+
+/// Clauses around an expression of depth 24.
+fn deepest(rng: &mut Random) -> Vec<Line> {
+    loop {
+        let clauses = deep_to(rng, DEPTH).clauses;
+        if clauses[0].depth() == DEPTH {
+            return clauses;
+        }
+    }
+}
+
+/// `b` lines of nine bytes.
+fn many_bindings() -> Vec<u8> {
+    let var = |v: &str| Line::new("var", &[v], Vec::new());
+    let mut tree = Tree::returning(vec![var("1000"), var("4000"), var("9999")]);
+    let count = (SHEET_BYTES - tree.text().len()) / 9;
+    tree.bindings = (1_000..1_000 + count as u32).map(|v| (v, 'N')).collect();
+    tree.text()
+}
+
+fn long_names() -> Vec<u8> {
+    let name = "6e".repeat(NAME_BYTES);
+    filled(|| {
+        let string = Line::new("str", &[&name], Vec::new());
+        vec![Line::new(
+            "whe",
+            &[],
+            vec![Line::new("prop", &[&name], vec![string])],
+        )]
+    })
+}
+
+/// Accepted sheets of each kind.
+fn sheets() -> Vec<(&'static str, Vec<Vec<u8>>)> {
+    let rng = &mut Random::new(1);
+    let mixed = (0..).map(|seed| long(&mut Random::new(seed)).text());
+    let mixed = mixed.filter(|sheet| calls::check_call(sheet).0 == 0);
+    vec![
+        ("small", SMALL.map(|s| s.as_bytes().to_vec()).to_vec()),
+        ("long", mixed.take(4).collect()),
+        ("deep", vec![filled(|| deepest(rng))]),
+        ("many bindings", vec![many_bindings()]),
+        ("long names", vec![long_names()]),
+    ]
+}
+
+fn validation(linked: CheckCall) {
+    println!(
+        "validation: nanoseconds for a sheet and megabytes in a second, least of {ROUNDS} rounds"
+    );
+    println!("family          bytes      library       MB/s       reader       MB/s");
+    for (name, sheets) in sheets() {
+        let all: usize = sheets.iter().map(Vec::len).sum();
+        let bytes = all as f64 / sheets.len() as f64;
+        let repeat = 1 + 2_000_000 / all;
+        let ours = nanoseconds(&sheets, repeat, |s| {
+            black_box(linked(s));
+        });
+        let theirs = nanoseconds(&sheets, repeat, |s| {
+            black_box(calls::check_call(s));
+        });
+        let speed = |taken: f64| bytes * 1e3 / taken;
+        println!(
+            "{name:<13} {bytes:>7.0} {ours:>12.0} {:>10.0} {theirs:>12.0} {:>10.0}",
+            speed(ours),
+            speed(theirs)
+        );
+    }
 }

@@ -1,4 +1,4 @@
-//! The two calls, by the reference: number, returned numbers, and every byte of output and work area (01, the table of causes).
+//! The calls, by the reference: number, returned numbers, and every byte of output and work area (01, the table of causes).
 
 use crate::limited::infer::infer_types;
 use crate::limited::unify::{unify, Stop};
@@ -13,6 +13,14 @@ pub fn sheet_report(sheet: &[u8]) -> Result<Vec<u8>, (u32, u64)> {
     let entries =
         infer_types(&read.statement, &read.lines).map_err(|large| (6, u64::from(large.0 .0)))?;
     Ok(report(&entries))
+}
+
+/// Validates a sheet: number and place.
+pub fn check_call(sheet: &[u8]) -> (u32, u64) {
+    if sheet.len() > SHEET_BYTES {
+        return (1, 0);
+    }
+    read_sheet(sheet).map_or_else(|r| (r.number, u64::from(r.line.0)), |_| (0, 0))
 }
 
 /// Types a sheet: number and first returned number.

@@ -3,6 +3,7 @@
 use crate::calls::sheet_report;
 use crate::generate::damage::damaged;
 use crate::generate::exhaustive;
+use crate::generate::hostile::hostile;
 use crate::generate::probes::{pair_probes, sheet_probes, PairProbe, SheetProbe};
 use crate::generate::sheets::{small_tree, tree};
 use crate::generate::types::text_pair;
@@ -40,6 +41,14 @@ pub fn small_sheet(rng: &mut Random) -> Vec<u8> {
     match rng.below(5) {
         0 | 1 => damaged(rng, &sheet),
         _ => sheet,
+    }
+}
+
+/// A sheet for validation, hostile in half of the cases.
+pub fn check_sheet(rng: &mut Random) -> Vec<u8> {
+    match rng.once_in(2) {
+        true => hostile(rng),
+        false => random_sheet(rng),
     }
 }
 

@@ -1,18 +1,19 @@
 //! The comparison of the static library with the reference: number, returned numbers, and every byte of both buffers and
-//! around them.
+//! around them; validation by [`validation`].
 
 use crate::calls;
 use crate::cases::{fixed_pair_cases, fixed_sheet_cases, pair_case, sheet_case, Case};
-use crate::library::{SheetCall, UnifyCall};
+use crate::library::{CheckCall, SheetCall, UnifyCall};
 use crate::random::Random;
 use crate::shrink::smallest;
+use crate::validation;
 use std::time::Instant;
 
 /// Bytes kept before and behind each lent buffer, to see writes beside it.
 const EDGE: usize = 64;
 
 /// How many differences are shown before the run stops.
-const SHOWN: usize = 3;
+pub(crate) const SHOWN: usize = 3;
 
 /// What a call left.
 #[derive(PartialEq, Eq, Clone)]
@@ -69,6 +70,7 @@ fn settle_pair(call: UnifyCall, a: &[u8], b: &[u8], work: usize, out: usize) -> 
 pub struct Library {
     pub sheet: Option<SheetCall>,
     pub unify: Option<UnifyCall>,
+    pub check: Option<CheckCall>,
 }
 
 impl Library {
@@ -76,10 +78,16 @@ impl Library {
         Library {
             sheet: crate::library::sheet_call(),
             unify: crate::library::unify_call(),
+            check: crate::library::check_call(),
         }
     }
 
     pub fn is_empty(&self) -> bool {
+        self.has_no_cases() && self.check.is_none()
+    }
+
+    /// Whether there is at most validation, which has no buffers.
+    fn has_no_cases(&self) -> bool {
         self.sheet.is_none() && self.unify.is_none()
     }
 
@@ -117,8 +125,16 @@ impl Library {
     }
 }
 
-/// Compares all fixed cases and `count` random ones; true if nothing differs.
+/// Compares each call on all its fixed inputs and on `count` random ones, which the calls with buffers share; true if
+/// nothing differs.
 pub fn run(library: Library, count: u64, seed: u64) -> bool {
+    let cases = library.has_no_cases() || run_cases(library, count, seed);
+    let check = |call| validation::run(call, count, seed);
+    library.check.is_none_or(check) && cases
+}
+
+/// Compares all fixed cases and `count` random ones; true if nothing differs.
+fn run_cases(library: Library, count: u64, seed: u64) -> bool {
     let mut run = Run::new(library);
     if library.sheet.is_some() {
         println!("compared: cyrs_infer_types");
@@ -223,9 +239,8 @@ impl Run {
 pub fn show_case(case: &Case) {
     match case {
         Case::Sheet { sheet, work, out } => {
-            let bytes = sheet.len();
-            println!("smallest sheet found ({bytes} bytes), work area {work}, output {out}:");
-            println!("{}", sheet.escape_ascii().to_string().replace("\\n", "\n"));
+            show_sheet(sheet);
+            println!("work area {work}, output {out}");
         }
         Case::Pair { a, b, work, out } => {
             println!("smallest pair found, work area {work}, output {out}:");
@@ -233,6 +248,12 @@ pub fn show_case(case: &Case) {
             println!("{}", b.escape_ascii());
         }
     }
+}
+
+/// Prints a sheet so that it can be repeated.
+pub fn show_sheet(sheet: &[u8]) {
+    println!("smallest sheet found ({} bytes):", sheet.len());
+    println!("{}", sheet.escape_ascii().to_string().replace("\\n", "\n"));
 }
 
 fn show_settled(who: &str, settled: &Settled) {

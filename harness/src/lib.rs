@@ -18,4 +18,5 @@ pub mod self_check;
 pub mod sheet;
 pub mod shrink;
 pub mod type_line;
+pub mod validation;
 pub mod vectors;

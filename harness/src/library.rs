@@ -1,7 +1,7 @@
-//! The static library's two calls in safe wrappers, for those that are linked (build.rs). A slice goes over as its
-//! address and its length, a returned number by address.
+//! The static library's calls in safe wrappers, for those that are linked (build.rs). A slice goes over as its address
+//! and its length, a returned number by address.
 
-#[cfg(any(cyrs_unify, cyrs_infer_types))]
+#[cfg(any(cyrs_unify, cyrs_infer_types, cyrs_check_sheet))]
 mod linked {
     extern "C" {
         #[cfg(cyrs_unify)]
@@ -28,6 +28,9 @@ mod linked {
             out_len: usize,
             first: *mut u64,
         ) -> u32;
+
+        #[cfg(cyrs_check_sheet)]
+        pub fn cyrs_check_sheet(sheet: *const u8, sheet_len: usize, place: *mut u64) -> u32;
     }
 }
 
@@ -36,6 +39,9 @@ pub type SheetCall = fn(&[u8], &mut [u8], &mut [u8]) -> (u32, u64);
 
 /// A call on two texts: number, first and second returned number.
 pub type UnifyCall = fn(&[u8], &[u8], &mut [u8], &mut [u8]) -> (u32, u64, u64);
+
+/// Validation of a sheet: number and place.
+pub type CheckCall = fn(&[u8]) -> (u32, u64);
 
 /// The linked `cyrs_infer_types`, if there is one.
 pub fn sheet_call() -> Option<SheetCall> {
@@ -53,8 +59,16 @@ pub fn unify_call() -> Option<UnifyCall> {
     None
 }
 
+/// The linked `cyrs_check_sheet`, if there is one.
+pub fn check_call() -> Option<CheckCall> {
+    #[cfg(cyrs_check_sheet)]
+    return Some(check_sheet);
+    #[cfg(not(cyrs_check_sheet))]
+    None
+}
+
 /// What a returned number holds before the call, so that one that is never written shows.
-#[cfg(any(cyrs_unify, cyrs_infer_types))]
+#[cfg(any(cyrs_unify, cyrs_infer_types, cyrs_check_sheet))]
 const UNSET: u64 = 0xdead_beef_dead_beef;
 
 #[cfg(cyrs_infer_types)]
@@ -96,4 +110,12 @@ fn unify(a: &[u8], b: &[u8], work: &mut [u8], out: &mut [u8]) -> (u32, u64, u64)
         )
     };
     (number, first, second)
+}
+
+#[cfg(cyrs_check_sheet)]
+fn check_sheet(sheet: &[u8]) -> (u32, u64) {
+    let mut place = UNSET;
+    // SAFETY: as above.
+    let number = unsafe { linked::cyrs_check_sheet(sheet.as_ptr(), sheet.len(), &mut place) };
+    (number, place)
 }

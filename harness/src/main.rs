@@ -9,7 +9,7 @@ use std::process::ExitCode;
 const USAGE: &str = "usage:
   cyrs-harness N [SEED]                  compare the linked library on all fixed and N random cases
   cyrs-harness quick                     the same with 40,000 cases, after a short check of the reference
-  cyrs-harness bench                     measure the linked library and the reference on the same pairs
+  cyrs-harness bench                     measure the linked calls and the reference on the same inputs
   cyrs-harness self N [SEED]             check the reference alone, N rounds
   cyrs-harness vectors DIR               write the fixed answers into DIR
   cyrs-harness typesheet PATH N [SEED]   compare a typesheet program on all fixed and N random sheets

@@ -4,13 +4,30 @@ use crate::cases::Case;
 use crate::generate::tree::{Line, Tree};
 use crate::reference::ty::Type;
 use crate::type_line::{read_type_line, type_line};
+use std::iter::successors;
+use std::ops::Range;
+use std::rc::Rc;
 
 /// How many inputs are tried at most.
 const TRIES: usize = 20_000;
 
 /// A smallest case that was found for which `differs` holds, beginning with one for which it does.
-pub fn smallest(case: Case, mut differs: impl FnMut(&Case) -> bool) -> Case {
-    let mut best = case;
+pub fn smallest(case: Case, differs: impl FnMut(&Case) -> bool) -> Case {
+    search(case, smaller, weight, differs)
+}
+
+/// The same for a sheet alone.
+pub fn smallest_sheet(sheet: Vec<u8>, mut differs: impl FnMut(&[u8]) -> bool) -> Vec<u8> {
+    search(sheet, |s| smaller_sheets(s), Vec::len, |s| differs(s))
+}
+
+fn search<T>(
+    first: T,
+    smaller: for<'a> fn(&'a T) -> Box<dyn Iterator<Item = T> + 'a>,
+    weight: fn(&T) -> usize,
+    mut differs: impl FnMut(&T) -> bool,
+) -> T {
+    let mut best = first;
     let mut tries = 0;
     loop {
         let found = smaller(&best)
@@ -55,54 +72,81 @@ pub(crate) fn smaller(case: &Case) -> Box<dyn Iterator<Item = Case> + '_> {
     }
 }
 
-/// Parts of the text taken away: halves first, then quarters, and so on down to single bytes.
-fn cut(text: &[u8]) -> impl Iterator<Item = Vec<u8>> + '_ {
-    let sizes = std::iter::successors(Some(text.len() / 2), |n| Some(n / 2)).take_while(|&n| n > 0);
+/// What to take away of so many things: all, halves, quarters, and so on down to single ones.
+fn ranges(len: usize) -> impl Iterator<Item = Range<usize>> {
+    let sizes = successors(Some(len), |n| Some(n / 2)).take_while(|&n| n > 0);
     sizes.flat_map(move |size| {
-        (0..text.len())
-            .step_by(size)
-            .map(move |at| [&text[..at], &text[(at + size).min(text.len())..]].concat())
+        let starts = (0..len).step_by(size);
+        starts.map(move |at| at..(at + size).min(len))
     })
+}
+
+/// Parts of the text taken away.
+fn cut(text: &[u8]) -> impl Iterator<Item = Vec<u8>> + '_ {
+    ranges(text.len()).map(|r| [&text[..r.start], &text[r.end..]].concat())
 }
 
 // ---- sheets
 
 fn smaller_sheets(sheet: &[u8]) -> Box<dyn Iterator<Item = Vec<u8>> + '_> {
     match Tree::parse(sheet) {
-        Some(tree) => Box::new(smaller_trees(&tree).into_iter().map(|t| t.text())),
+        Some(tree) => Box::new(smaller_trees(tree).map(|t| t.text())),
         None => {
             let lines: Vec<&[u8]> = sheet.split_inclusive(|&b| b == b'\n').collect();
-            let without = (0..lines.len())
-                .map(|i| [&lines[..i], &lines[i + 1..]].concat().concat())
-                .collect::<Vec<_>>();
-            Box::new(without.into_iter().chain(cut(sheet)))
+            let fewer = ranges(lines.len())
+                .map(move |r| [&lines[..r.start], &lines[r.end..]].concat().concat());
+            Box::new(fewer.chain(cut(sheet)))
         }
     }
 }
 
-fn smaller_trees(tree: &Tree) -> Vec<Tree> {
-    let mut trees = Vec::new();
-    for i in 0..tree.clauses.len() {
-        let mut t = tree.clone();
-        t.clauses.remove(i);
-        trees.push(t);
-    }
-    for i in 0..tree.bindings.len() {
-        let mut t = tree.clone();
-        t.bindings.remove(i);
-        trees.push(t);
-    }
-    for i in 0..tree.clauses.len() {
-        for clause in smaller_lines(&tree.clauses[i]) {
-            let mut t = tree.clone();
-            t.clauses[i] = clause;
-            trees.push(t);
-        }
-    }
-    trees
+/// Made one by one: a long sheet has as many as it has lines, each about as long as itself.
+fn smaller_trees(tree: Tree) -> impl Iterator<Item = Tree> {
+    let mut size = 0;
+    tree.visit(&mut |_| size += 1);
+    let (clauses, bindings) = (tree.clauses.len(), tree.bindings.len());
+    let all = Rc::new(tree);
+    let tree = all.clone();
+    let fewer_clauses = ranges(clauses).map(move |r| {
+        let mut t = Tree::clone(&tree);
+        t.clauses.drain(r);
+        t
+    });
+    let tree = all.clone();
+    let fewer_bindings = ranges(bindings).map(move |r| {
+        let mut t = Tree::clone(&tree);
+        t.bindings.drain(r);
+        t
+    });
+    let edited = (0..size).flat_map(move |at| {
+        let tree = all.clone();
+        let lines = smaller_lines(nth(&tree, at));
+        lines.into_iter().map(move |line| with_nth(&tree, at, line))
+    });
+    fewer_clauses.chain(fewer_bindings).chain(edited)
 }
 
-/// A line with less below it, or something that stands below it in its place.
+/// The line at this place of the clauses' lines, with what stands below it.
+fn nth(tree: &Tree, at: usize) -> &Line {
+    let mut lines = Vec::new();
+    tree.visit(&mut |line| lines.push(line));
+    lines[at]
+}
+
+/// The tree with another line at this place.
+fn with_nth(tree: &Tree, at: usize, line: Line) -> Tree {
+    let (mut tree, mut line) = (tree.clone(), line);
+    let mut place = 0;
+    tree.visit_mut(&mut |l| {
+        if place == at {
+            std::mem::swap(l, &mut line);
+        }
+        place += 1;
+    });
+    tree
+}
+
+/// A line with less below it, or something that stands below it in its place; what stands below is kept as it is.
 fn smaller_lines(line: &Line) -> Vec<Line> {
     let mut lines = Vec::new();
     if line.is_expr() {
@@ -115,7 +159,7 @@ fn smaller_lines(line: &Line) -> Vec<Line> {
             lines.push(Line::new("null", &[], Vec::new()));
         }
     }
-    lines.extend(without_a_child(line));
+    lines.extend(fewer_children(line));
     for (i, field) in line.fields.iter().enumerate() {
         if field.len() > 2 {
             for shorter in [field[..2].to_string(), field[2..].to_string(), "0".into()] {
@@ -125,18 +169,11 @@ fn smaller_lines(line: &Line) -> Vec<Line> {
             }
         }
     }
-    for (i, child) in line.children.iter().enumerate() {
-        for smaller in smaller_lines(child) {
-            let mut l = line.clone();
-            l.children[i] = smaller;
-            lines.push(l);
-        }
-    }
     lines
 }
 
-/// A line with one less of what its count counts.
-fn without_a_child(line: &Line) -> Vec<Line> {
+/// A line with less of what its count counts. Of a great count only large parts are taken: a line of many has many.
+fn fewer_children(line: &Line) -> Vec<Line> {
     let Some(at) = line.count_field() else {
         return Vec::new();
     };
@@ -149,12 +186,13 @@ fn without_a_child(line: &Line) -> Vec<Line> {
         "case" => usize::from(line.fields[0] == "1" || line.fields[0] == "3"),
         _ => 0,
     };
-    (0..count)
-        .map(|i| {
+    ranges(count)
+        .take(60)
+        .map(|r| {
             let mut l = line.clone();
-            let from = before + i * group.per;
-            l.children.drain(from..from + group.per);
-            l.fields[at] = (count - 1).to_string();
+            l.fields[at] = (count - r.len()).to_string();
+            l.children
+                .drain(before + r.start * group.per..before + r.end * group.per);
             l
         })
         .collect()

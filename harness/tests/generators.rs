@@ -1,10 +1,11 @@
 //! What the generators reach, and that the reference agrees with itself on it.
 
-use cyrs_harness::calls::{sheet_report, unify_texts, Unified};
-use cyrs_harness::cases::random_sheet;
+use cyrs_harness::calls::{check_call, sheet_report, unify_texts, Unified};
+use cyrs_harness::cases::{check_sheet, random_sheet};
 use cyrs_harness::generate::exhaustive;
+use cyrs_harness::generate::hostile::EVERY_WORD;
 use cyrs_harness::generate::sheets::tree;
-use cyrs_harness::generate::table::{Field, ROWS};
+use cyrs_harness::generate::table::{Class, Field, ROWS};
 use cyrs_harness::generate::types::text_pair;
 use cyrs_harness::limited::unify::Stop;
 use cyrs_harness::limits::{DEPTH, SHEET_BYTES};
@@ -92,6 +93,41 @@ fn every_number_and_every_fault() {
     );
     let codes: BTreeSet<&[u8]> = faults.iter().map(|f| &f[2..6]).collect();
     assert_eq!(codes.len(), 6);
+}
+
+/// Every number of validation, every word as the first that is wrong, and every expression as the first too deep.
+#[test]
+fn every_refusal_of_every_word() {
+    let mut rng = Random::new(3);
+    let mut numbers = BTreeSet::new();
+    let mut refused = BTreeSet::new();
+    for _ in 0..20_000 {
+        let sheet = check_sheet(&mut rng);
+        let (number, place) = check_call(&sheet);
+        numbers.insert(number);
+        if number >= 3 {
+            let line = sheet.split(|&b| b == b'\n').nth(place as usize - 1);
+            let word = line.and_then(|l| l.split(|&b| b == b',').next());
+            refused.insert((word.unwrap_or(b"").to_vec(), number));
+        }
+    }
+    assert_eq!(numbers.into_iter().collect::<Vec<_>>(), [0, 1, 3, 4, 5]);
+    assert_eq!(check_call(EVERY_WORD.as_bytes()), (0, 0));
+    for row in &ROWS {
+        let word = row.word.as_bytes().to_vec();
+        assert!(refused.contains(&(word.clone(), 3)), "{}", row.word);
+        assert!(
+            row.class != Class::Expr || refused.contains(&(word, 5)),
+            "{}",
+            row.word
+        );
+        let mut lines = EVERY_WORD.lines();
+        assert!(
+            lines.any(|l| l.split(',').next() == Some(row.word)),
+            "{}",
+            row.word
+        );
+    }
 }
 
 #[test]

@@ -4,9 +4,10 @@ use cyrs_harness::calls::sheet_report;
 use cyrs_harness::cases::Case;
 use cyrs_harness::differential::{run, Library};
 use cyrs_harness::generate::sheets::tree;
-use cyrs_harness::library::{SheetCall, UnifyCall};
+use cyrs_harness::generate::tree::{Line, Tree};
+use cyrs_harness::library::{CheckCall, SheetCall, UnifyCall};
 use cyrs_harness::random::Random;
-use cyrs_harness::shrink::smallest;
+use cyrs_harness::shrink::{smallest, smallest_sheet};
 use cyrs_harness::{calls, limits};
 
 #[test]
@@ -19,14 +20,22 @@ fn linked_library() {
     assert!(run(library, 5_000, 3));
 }
 
+const NONE: Library = Library {
+    sheet: None,
+    unify: None,
+    check: None,
+};
+
 /// The comparison itself: the reference against itself is equal, and against one with a fault is not.
 #[test]
 fn a_faulty_library_shows() {
     let good: SheetCall = calls::sheet_call;
     let pairs: UnifyCall = calls::unify_call;
+    let check: CheckCall = calls::check_call;
     let library = Library {
         sheet: Some(good),
         unify: Some(pairs),
+        check: Some(check),
     };
     assert!(run(library, 300, 4));
     let faulty: SheetCall = |sheet, work, out| {
@@ -38,7 +47,7 @@ fn a_faulty_library_shows() {
     };
     let library = Library {
         sheet: Some(faulty),
-        unify: None,
+        ..NONE
     };
     assert!(!run(library, 300, 4));
     let faulty: UnifyCall = |a, b, work, out| {
@@ -46,8 +55,17 @@ fn a_faulty_library_shows() {
         (number, first, second + u64::from(number == 8))
     };
     let library = Library {
-        sheet: None,
         unify: Some(faulty),
+        ..NONE
+    };
+    assert!(!run(library, 300, 4));
+    let faulty: CheckCall = |sheet| {
+        let (number, place) = calls::check_call(sheet);
+        (number, place + u64::from(number == 5))
+    };
+    let library = Library {
+        check: Some(faulty),
+        ..NONE
     };
     assert!(!run(library, 300, 4));
 }
@@ -78,4 +96,18 @@ fn differences_shrink() {
         panic!("another kind of case");
     };
     assert!(sheet.len() < 60, "{}", String::from_utf8_lossy(&sheet));
+}
+
+/// A long sheet shrinks too, whether it is refused or not.
+#[test]
+fn long_sheets_shrink() {
+    let items = vec![Line::new("exi", &[], Vec::new()); 9_000];
+    let list = Line::new("lis", &["9000"], items);
+    let long = Tree::returning(vec![list]).text();
+    let has_list = |s: &[u8]| s.starts_with(b"cyrs,1\n") && s.windows(4).any(|w| w == b"lis,");
+    let least = smallest_sheet(long.clone(), |s| has_list(s) && calls::check_call(s).0 == 0);
+    assert_eq!(least, b"cyrs,1\nret,0,1\npro,-\nlis,0\nend\n");
+    let refused = [&long[..], b"x"].concat();
+    let least = smallest_sheet(refused, |s| has_list(s) && calls::check_call(s).0 == 3);
+    assert_eq!(least, b"cyrs,1\nlis,");
 }

@@ -109,7 +109,7 @@ fn damage(rng: &mut Random, text: &mut Vec<u8>) {
 }
 
 /// A field's text: of the list, a name at its limit, or a very long decimal.
-fn field(rng: &mut Random) -> Vec<u8> {
+pub(super) fn field(rng: &mut Random) -> Vec<u8> {
     match rng.below(12) {
         0 => b"61".repeat(255),
         1 => b"61".repeat(256),

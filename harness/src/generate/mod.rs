@@ -1,8 +1,9 @@
-//! Seeded generators: sheets of every kind, damaged ones, both sides of every limit, type texts and pairs, rewordings.
+//! Seeded generators: sheets of every kind, damaged and hostile ones, both sides of every limit, type texts and pairs, rewordings.
 
 pub mod damage;
 pub mod exhaustive;
 pub mod exprs;
+pub mod hostile;
 pub mod probes;
 pub mod rewording;
 pub mod sheets;

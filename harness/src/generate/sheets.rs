@@ -68,6 +68,11 @@ pub fn deep(rng: &mut Random) -> Tree {
         true => DEPTH + 1,
         false => rng.between(DEPTH - 2, DEPTH),
     };
+    deep_to(rng, levels)
+}
+
+/// At least so many levels of expressions.
+pub fn deep_to(rng: &mut Random, levels: usize) -> Tree {
     let mut maker = Maker::new(rng, 60);
     // No word is left out, so that there is always one to go deeper by.
     maker.weights.iter_mut().for_each(|w| *w += 1);
@@ -108,7 +113,7 @@ fn around(maker: &mut Maker, inner: Line) -> Line {
 }
 
 /// Near 65,535 bytes, often exactly that, sometimes one more.
-fn long(rng: &mut Random) -> Tree {
+pub fn long(rng: &mut Random) -> Tree {
     let aim = SHEET_BYTES - rng.below(3000);
     let mut tree = random_tree(rng, 30);
     let mut len = tree.text().len();

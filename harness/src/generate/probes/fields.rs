@@ -87,7 +87,7 @@ fn line_text(word: &str, fields: &[String]) -> String {
 }
 
 /// Texts for a field: fine, outside its range, badly written.
-fn texts(field: Field) -> (Vec<String>, Vec<String>, Vec<String>) {
+pub(in crate::generate) fn texts(field: Field) -> Texts {
     let number = |fine: Vec<u64>, over: &str| {
         (
             fine.iter().map(u64::to_string).collect(),
@@ -149,7 +149,7 @@ fn strings(list: &[&str]) -> Vec<String> {
     list.iter().map(|s| s.to_string()).collect()
 }
 
-type Texts = (Vec<String>, Vec<String>, Vec<String>);
+pub(in crate::generate) type Texts = (Vec<String>, Vec<String>, Vec<String>);
 
 /// `-` is fine too.
 fn optional((mut fine, over, bad): Texts) -> Texts {

@@ -6,6 +6,7 @@ mod fields;
 mod pairs;
 mod sizes;
 
+pub(super) use fields::texts;
 pub use pairs::pair_probes;
 
 use super::tree::Line;
