@@ -1,7 +1,7 @@
 /* The calls of libcyrs (document 01).
  *
  * A slice is passed as its address and its length. `work` has 65,536 bytes. Each call returns 0 or the number of a refusal and always
- * sets its returned numbers; what both buffers hold afterwards follows from the number:
+ * sets its returned numbers; what lent buffers hold afterwards follows from the number:
  *
  *   0  accepted: the text at the front of `out`, the rest of `out` as lent, `work` zeros
  *   2  `work` has not 65,536 bytes: both as lent
@@ -25,6 +25,11 @@ extern "C" {
  * 9: *first and *second are the lengths of the two types. Otherwise both are 0. */
 uint32_t cyrs_unify(const uint8_t *a, size_t a_len, const uint8_t *b, size_t b_len, uint8_t *work, size_t work_len, uint8_t *out,
                     size_t out_len, uint64_t *first, uint64_t *second);
+
+/* Reads a sheet and types nothing; the call that types a sheet will replace it. It lends no buffer.
+ * 0: the sheet can be read. 1: it has more than 65,535 bytes. 3 badly written, 4 out of range, 5 nested too deep: *place is the line,
+ * from 1. Otherwise *place is 0. */
+uint32_t cyrs_check_sheet(const uint8_t *sheet, size_t sheet_len, uint64_t *place);
 
 #ifdef __cplusplus
 }
