@@ -26,6 +26,14 @@ fn replay(file: &str) -> BTreeSet<u32> {
     numbers
 }
 
+/// The program `replay` has no file to open: it is fed both.
+#[test]
+fn replay_input() {
+    let path = Path::new(env!("CARGO_MANIFEST_DIR")).join("../crates/replay/stdin");
+    let input = fs::read(&path).unwrap_or_else(|e| panic!("{}: {e}", path.display()));
+    assert!(input == [stored(SHEETS_FILE), stored(PAIRS_FILE)].concat());
+}
+
 #[test]
 fn sheets() {
     let numbers: Vec<u32> = replay(SHEETS_FILE).into_iter().collect();

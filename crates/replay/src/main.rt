@@ -1,12 +1,26 @@
-// Replays the stored calls of harness/vectors/pairs.txt, from standard input, and writes one line of counts.
+// Replays the stored calls of harness/vectors, sheets and then pairs, from standard input, and writes one line of counts.
 use libc::STDIN_FILENO;
 use libc::STDOUT_FILENO;
-ghost use Prim.Native.Nat.{_≤_};
+ghost use mathlib.Core.Path.{_≡_};
+ghost use Prim.Native.Nat.{_≤_, _<_};
+ghost use lib.ListN.{length, replicate};
+ghost use Rattle.semantics.specs.Calls.{unifyCall};
+ghost use Rattle.cyrs.specs.Checking.{checkCall};
+ghost use Rattle.replay.specs.Judged.{Decides, Judges};
+ghost use Rattle.replay.specs.Stored.{filled, workByte, outByte, readingOf, Answers, checkedAs, storedBy, Agrees};
 
 // What the two buffers are filled with before a call: bytes that no text has.
 const WORK_FILL: u8 = 170;
 
 const OUT_FILL: u8 = 187;
+
+// Bytes of input, and one more.
+const ROOM: usize = 983040;
+
+enum Kind {
+    Sheet,
+    Pair,
+}
 
 enum Verdict {
     Same,
@@ -26,7 +40,7 @@ struct Number {
     next: usize,
 }
 
-// The eight numbers of a header line and the place behind it.
+// The numbers of a header line, eight at most, and the place behind it.
 struct Header {
     values: [usize; 8],
     next: usize,
@@ -63,7 +77,10 @@ fn digit(b: u8) -> usize
 }
 
 // The decimal number at `at`, at most seven digits of it.
-fn read_number(src: &[u8], at: usize) -> Number {
+fn read_number(src: &[u8], at: usize) -> Number
+    requires { ⌜ at ≤ length (now src) ⌝ }
+    ensures { λ r. ⌜ (at ≤ r .next) × (r .next ≤ length (now (src .entry))) ⌝ }
+{
     let mut value: usize = 0;
     let mut i = at;
     while i < src.len() {
@@ -90,7 +107,10 @@ fn read_number(src: &[u8], at: usize) -> Number {
 }
 
 // The place behind `at` where the byte `b` stands there, or else the end.
-fn past(src: &[u8], at: usize, b: u8) -> usize {
+fn past(src: &[u8], at: usize, b: u8) -> usize
+    requires { ⌜ at ≤ length (now src) ⌝ }
+    ensures { λ r. ⌜ (at ≤ r) × (r ≤ length (now (src .entry))) ⌝ }
+{
     if at < src.len() {
         if src[at] == b {
             return at + 1;
@@ -100,7 +120,10 @@ fn past(src: &[u8], at: usize, b: u8) -> usize {
 }
 
 // The number at `at` and the place behind its separator, or else the end.
-fn field(src: &[u8], at: usize, separator: u8) -> Number {
+fn field(src: &[u8], at: usize, separator: u8) -> Number
+    requires { ⌜ at ≤ length (now src) ⌝ }
+    ensures { λ r. ⌜ r .next ≤ length (now (src .entry)) ⌝ }
+{
     let n = read_number(src, at);
     let end = n.next;
     if end <= at {
@@ -115,18 +138,23 @@ fn field(src: &[u8], at: usize, separator: u8) -> Number {
     }
 }
 
-// The byte behind the header's number `i`.
-fn separator(i: usize) -> u8 {
-    if i < 7 { b' ' } else { b'\n' }
+// The byte behind the number `i` of `count`.
+fn separator(i: usize, count: usize) -> u8
+    requires { ⌜ i < count ⌝ }
+{
+    if i + 1 < count { b' ' } else { b'\n' }
 }
 
-// The header line at `at`: it ends at the end of `src` where it is malformed.
-fn read_header(src: &[u8], at: usize) -> Header {
+// The header line at `at`, a letter and `count` numbers: it ends at the end of `src` where it is malformed.
+fn read_header(src: &[u8], at: usize, letter: u8, count: usize) -> Header
+    requires { ⌜ (at ≤ length (now src)) × (count ≤ 8) ⌝ }
+    ensures { λ r. ⌜ r .next ≤ length (now (src .entry)) ⌝ }
+{
     let mut values = [0usize; 8];
-    let mut next = past(src, past(src, at, b'U'), b' ');
+    let mut next = past(src, past(src, at, letter), b' ');
     let mut i = 0;
-    while i < 8 {
-        let f = field(src, next, separator(i));
+    while i < count {
+        let f = field(src, next, separator(i, count));
         values[i] = f.value;
         next = f.next;
         i += 1;
@@ -138,18 +166,21 @@ fn read_header(src: &[u8], at: usize) -> Header {
 }
 
 // The end of the part of `n` bytes from `from`, where an LF stands, or else the end.
-fn part_end(src: &[u8], from: usize, n: usize) -> usize {
-    if from < src.len() {
-        if n < src.len() - from {
-            if src[from + n] == b'\n' {
-                return from + n;
-            }
+fn part_end(src: &[u8], from: usize, n: usize) -> usize
+    requires { ⌜ from ≤ length (now src) ⌝ }
+    ensures { λ r. ⌜ (from ≤ r) × (r ≤ length (now (src .entry))) ⌝ }
+{
+    if n < src.len() - from {
+        if src[from + n] == b'\n' {
+            return from + n;
         }
     }
     src.len()
 }
 
-fn all_are(s: &[u8], b: u8) -> bool {
+fn all_are(s: &[u8], b: u8) -> bool
+    ensures { λ r. ⌜ Decides r (now (s .entry) ≡ replicate (length (now (s .entry))) b) ⌝ }
+{
     let mut i = 0;
     while i < s.len() {
         if s[i] != b {
@@ -161,7 +192,9 @@ fn all_are(s: &[u8], b: u8) -> bool {
 }
 
 // Whether `s` is `t` and then `fill` to its end.
-fn is_then(s: &[u8], t: &[u8], fill: u8) -> bool {
+fn is_then(s: &[u8], t: &[u8], fill: u8) -> bool
+    ensures { λ r. ⌜ Decides r (now (s .entry) ≡ filled (now (t .entry)) (length (now (s .entry))) fill) ⌝ }
+{
     let n = t.len();
     if n > s.len() {
         return false;
@@ -172,26 +205,40 @@ fn is_then(s: &[u8], t: &[u8], fill: u8) -> bool {
     all_are(&s[n..], fill)
 }
 
-// Whether both buffers hold what the number says.
-fn is_left(number: u32, work: &[u8], out: &[u8], expected: &[u8]) -> bool {
-    let mut in_work = 0;
-    let mut in_out = OUT_FILL;
+// What the work area is filled with after an answer of this number.
+fn in_work(number: u32) -> u8
+    ensures { λ r. ⌜ r ≡ workByte number ⌝ }
+{
     match number {
-        0 | 9 => {}
-        1 | 2 => {
-            in_work = WORK_FILL;
-        }
-        _ => {
-            in_out = 0;
-        }
+        1 | 2 => WORK_FILL,
+        _ => 0,
     }
-    if !all_are(work, in_work) {
-        return false;
-    }
-    is_then(out, expected, in_out)
 }
 
-fn is_answer(c: cyrs::Call, want: Want) -> bool {
+// The same of the output, behind what is written.
+fn in_out(number: u32) -> u8
+    ensures { λ r. ⌜ r ≡ outByte number ⌝ }
+{
+    match number {
+        3..=8 => 0,
+        _ => OUT_FILL,
+    }
+}
+
+// Whether both buffers hold what the number says.
+fn is_left(number: u32, work: &[u8], out: &[u8], expected: &[u8]) -> bool
+    ensures { λ r. ⌜ Decides r ((now (work .entry) ≡ replicate (length (now (work .entry))) (workByte number))
+        × (now (out .entry) ≡ filled (now (expected .entry)) (length (now (out .entry))) (outByte number))) ⌝ }
+{
+    if !all_are(work, in_work(number)) {
+        return false;
+    }
+    is_then(out, expected, in_out(number))
+}
+
+fn is_answer(c: cyrs::Call, want: Want) -> bool
+    ensures { λ r. ⌜ Decides r (Answers c want) ⌝ }
+{
     if c.number as u64 != want.number as u64 {
         return false;
     }
@@ -201,15 +248,56 @@ fn is_answer(c: cyrs::Call, want: Want) -> bool {
     c.second == want.second as u64
 }
 
-// Calls, and says whether the answer and the buffers are as the case says.
-fn call(
+// What validation alone must answer: a sheet that can be read is accepted.
+fn reading(want: Want) -> Want
+    ensures { λ r. ⌜ r ≡ readingOf want ⌝ }
+{
+    let number = want.number;
+    match number {
+        0 | 6 | 7 => Want {
+            number: 0,
+            first: 0,
+            second: 0,
+        },
+        _ => Want {
+            number: number,
+            first: want.first,
+            second: 0,
+        },
+    }
+}
+
+// Validates a sheet, as long as there is no call that types it. It is lent no work area, so 2 is not judged.
+fn check(sheet: &[u8], want: Want) -> Verdict
+    ensures { λ r. ⌜ Judges r (checkCall (now (sheet .entry)) ≡ checkedAs want) ⌝ }
+{
+    if want.number == 2 {
+        return Verdict::Skipped;
+    }
+    let c = cyrs::check_sheet(sheet);
+    let told = cyrs::Call {
+        number: c.number,
+        first: c.place,
+        second: 0,
+    };
+    if is_answer(told, reading(want)) {
+        return Verdict::Same;
+    }
+    Verdict::Differs
+}
+
+// Unifies, and says whether the answer and the buffers are as the case says.
+fn unify(
     a: &[u8],
     b: &[u8],
     work: &mut [u8],
     out: &mut [u8],
     want: Want,
     expected: &[u8],
-) -> Verdict {
+) -> Verdict
+    ensures { λ r. ⌜ Judges r (unifyCall (now (a .entry)) (now (b .entry)) (now (work .entry)) (now (out .entry))
+        ≡ storedBy want (length (now (work .entry))) (length (now (out .entry))) (now (expected .entry))) ⌝ }
+{
     let c = cyrs::unify_types(a, b, work, out);
     if !is_answer(c, want) {
         return Verdict::Differs;
@@ -220,8 +308,28 @@ fn call(
     Verdict::Differs
 }
 
+// The call of a case: a sheet is `a`.
+fn call(
+    kind: Kind,
+    a: &[u8],
+    b: &[u8],
+    work: &mut [u8],
+    out: &mut [u8],
+    want: Want,
+    expected: &[u8],
+) -> Verdict
+    ensures { λ r. ⌜ Judges r (Agrees kind (now (a .entry)) (now (b .entry)) (now (work .entry)) (now (out .entry)) want (now (expected .entry))) ⌝ }
+{
+    match kind {
+        Kind::Sheet => check(a, want),
+        Kind::Pair => unify(a, b, work, out, want, expected),
+    }
+}
+
 // Lends a work area of `w` bytes and an output of `o`, where there is room for them.
-fn lend(a: &[u8], b: &[u8], w: usize, o: usize, want: Want, expected: &[u8]) -> Verdict {
+fn lend(kind: Kind, a: &[u8], b: &[u8], w: usize, o: usize, want: Want, expected: &[u8]) -> Verdict
+    ensures { λ r. ⌜ Judges r (Agrees kind (now (a .entry)) (now (b .entry)) (replicate w 170) (replicate o 187) want (now (expected .entry))) ⌝ }
+{
     let mut work = [WORK_FILL; 65537];
     let mut out = [OUT_FILL; 65536];
     if w > 65537 {
@@ -230,12 +338,47 @@ fn lend(a: &[u8], b: &[u8], w: usize, o: usize, want: Want, expected: &[u8]) -> 
     if o > 65536 {
         return Verdict::Skipped;
     }
-    call(a, b, &mut work[..w], &mut out[..o], want, expected)
+    call(kind, a, b, &mut work[..w], &mut out[..o], want, expected)
 }
 
-// The case at `at`. A malformed part ends at the end of `src`, and so do those behind it.
-fn replay_case(src: &[u8], at: usize) -> Outcome {
-    let h = read_header(src, at);
+fn malformed(at: usize) -> Outcome {
+    Outcome {
+        verdict: Verdict::Skipped,
+        next: at,
+    }
+}
+
+// The sheet at `at`. A malformed part ends at the end of `src`, and so do those behind it.
+fn replay_sheet(src: &[u8], at: usize) -> Outcome
+    requires { ⌜ at ≤ length (now src) ⌝ }
+{
+    let h = read_header(src, at, b'S', 6);
+    let v = h.values;
+    let s = h.next;
+    let s_end = part_end(src, s, v[4]);
+    let e = past(src, s_end, b'\n');
+    let e_end = part_end(src, e, v[5]);
+    if e_end == src.len() {
+        return malformed(at);
+    }
+    let want = Want {
+        number: v[0],
+        first: v[1],
+        second: 0,
+    };
+    let sheet = &src[s..s_end];
+    let verdict = lend(Kind::Sheet, sheet, b"", v[2], v[3], want, &src[e..e_end]);
+    Outcome {
+        verdict: verdict,
+        next: e_end + 1,
+    }
+}
+
+// The pair at `at`, likewise.
+fn replay_pair(src: &[u8], at: usize) -> Outcome
+    requires { ⌜ at ≤ length (now src) ⌝ }
+{
+    let h = read_header(src, at, b'U', 8);
     let v = h.values;
     let a = h.next;
     let a_end = part_end(src, a, v[5]);
@@ -243,27 +386,8 @@ fn replay_case(src: &[u8], at: usize) -> Outcome {
     let b_end = part_end(src, b, v[6]);
     let e = past(src, b_end, b'\n');
     let e_end = part_end(src, e, v[7]);
-    let malformed = Outcome {
-        verdict: Verdict::Skipped,
-        next: at,
-    };
-    if e_end >= src.len() {
-        return malformed;
-    }
-    if e > e_end {
-        return malformed;
-    }
-    if b_end > e {
-        return malformed;
-    }
-    if b > b_end {
-        return malformed;
-    }
-    if a_end > b {
-        return malformed;
-    }
-    if a > a_end {
-        return malformed;
+    if e_end == src.len() {
+        return malformed(at);
     }
     let want = Want {
         number: v[0],
@@ -271,6 +395,7 @@ fn replay_case(src: &[u8], at: usize) -> Outcome {
         second: v[2],
     };
     let verdict = lend(
+        Kind::Pair,
         &src[a..a_end],
         &src[b..b_end],
         v[3],
@@ -281,6 +406,16 @@ fn replay_case(src: &[u8], at: usize) -> Outcome {
     Outcome {
         verdict: verdict,
         next: e_end + 1,
+    }
+}
+
+fn replay_case(src: &[u8], at: usize) -> Outcome
+    requires { ⌜ at < length (now src) ⌝ }
+{
+    if src[at] == b'S' {
+        replay_sheet(src, at)
+    } else {
+        replay_pair(src, at)
     }
 }
 
@@ -353,12 +488,21 @@ fn say(t: Tally) {
     io::write_all(STDOUT_FILENO, b"\n");
 }
 
-fn main() {
-    let mut src = [0u8; 393216];
-    let n = io::read_full(STDIN_FILENO, &mut src);
-    if n == 393216 {
+fn replay_input(src: &mut [u8]) {
+    let n = io::read_full(STDIN_FILENO, src);
+    if n == src.len() {
         io::write_all(STDOUT_FILENO, b"the input is too long\n");
         return;
     }
     say(replay_all(&src[..n]));
+}
+
+// The array by its type: a proof then asks its length of no list of so many elements.
+fn replay_room(src: &mut [u8; ROOM]) {
+    replay_input(src);
+}
+
+fn main() {
+    let mut src = [0u8; ROOM];
+    replay_room(&mut src);
 }

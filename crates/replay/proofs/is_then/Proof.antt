@@ -1,13 +1,15 @@
--- `replay::is_then` is safe: the front that it compares lies inside the slice. Assumes nothing.
-use mathlib.Core.Path.{sym}
-use lib.Seq.{length-take-le}
+-- `is_then`: the front lies inside the slice and is compared, and then what is behind it. Assumes nothing.
+use mathlib.Core.Path.{sym, _∙_}
+use borrow.Author.Tests.{not-true, not-false}
 use native.Mathlib.Omega.{arith}
+use lib.Seq.{length-take-le}
 use borrow.Author.Needs.{needs}
+use Rattle.replay.proofs.Fills.{too-long, front-unlike, rest-decides}
 use Rattle.replay.proofs.is_then.Statement.{statement}
 use Rattle.replay.proofs.is_then.Tie as tie
 
 returns : tie.Need-returns
-returns c = search needs
+returns c = too-long (c .before .before .before .args .s .now) (c .before .before .before .args .t .now) _ (c .if1 .taken)
 
 slice-aggregate-same : tie.Need-slice-aggregate-same
 slice-aggregate-same c = sym (length-take-le _ _ (omega arith))
@@ -16,7 +18,7 @@ same-requires : tie.Need-same-requires
 same-requires c κs = search needs
 
 returns-2 : tie.Need-returns-2
-returns-2 c = search needs
+returns-2 c = let a = c .before .before .before .before .before .before .args in front-unlike (a .s .now) (a .t .now) _ (sym (c .before .same .ensures) ∙ not-true _ (c .if2 .taken))
 
 sub-all-are : tie.Need-sub-all-are
 sub-all-are c = search needs
@@ -31,7 +33,7 @@ all-are-requires : tie.Need-all-are-requires
 all-are-requires c κs = search needs
 
 returns-3 : tie.Need-returns-3
-returns-3 c = search needs
+returns-3 c = let a = c .before .before .before .before .before .before .before .before .args in rest-decides (a .s .now) (a .t .now) _ (sym (c .before .before .before .same .ensures) ∙ not-false _ (c .before .before .if2 .left)) (c .all-are .ensures)
 
 pub is-then-spec : {M : Type 1} → statement M
 is-then-spec =

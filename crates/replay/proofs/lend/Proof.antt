@@ -1,15 +1,17 @@
--- `replay::lend` is safe: the fronts that it lends lie inside the two arrays. Assumes nothing.
+-- `lend`: the fronts that it lends lie inside the two arrays, and are filled with one byte. Assumes nothing.
 use mathlib.Core.Path.{sym}
 use lib.Seq.{length-take-le}
 use borrow.Author.Needs.{needs}
+use Rattle.replay.proofs.Decided.{skipped}
+use Rattle.replay.proofs.Fills.{take-replicate}
 use Rattle.replay.proofs.lend.Statement.{statement}
 use Rattle.replay.proofs.lend.Tie as tie
 
 returns : tie.Need-returns
-returns c = search needs
+returns c = skipped
 
 returns-2 : tie.Need-returns-2
-returns-2 c = search needs
+returns-2 c = skipped
 
 array-borrow-prefix-work : tie.Need-array-borrow-prefix-work
 array-borrow-prefix-work c = search needs
@@ -27,7 +29,7 @@ call-requires : tie.Need-call-requires
 call-requires c κs = search needs
 
 returns-3 : tie.Need-returns-3
-returns-3 c = search needs
+returns-3 c = rw (take-replicate _ 65537 170 (c .before .before .before .before .before .before .if1 .left), take-replicate _ 65536 187 (c .before .before .before .before .before .if2 .left)) at (c .before .before .call .ensures)
 
 pub lend-spec : {M : Type 1} → statement M
 lend-spec =

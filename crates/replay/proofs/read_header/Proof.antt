@@ -1,14 +1,15 @@
--- `replay::read_header` is safe and ends. The measure is how many numbers are left. Assumes nothing.
-use Prim.Native.Nat.{_-_}
+-- `read_header`: the place stays inside the text. The measure is how many numbers are left. Assumes nothing.
+use Prim.Native.Nat.{_-_, _≤_}
+use lib.ListN.{length}
 use borrow.Author.Needs.{needs}
 use Rattle.replay.proofs.read_header.Statement.{statement}
 use Rattle.replay.proofs.read_header.Tie as tie
 
 abbrev Inv-loop : tie.InvT-loop
-Inv-loop src at values₀ next₀ i₀ values next i = Unit {0}
+Inv-loop src at letter count values₀ next₀ i₀ values next i = next ≤ length src
 
 abbrev μ-loop : tie.MeasureT-loop
-μ-loop src at values₀ next₀ i₀ values next i = 8 - i
+μ-loop src at letter count values₀ next₀ i₀ values next i = count - i
 
 past-requires : tie.Need-past-requires Inv-loop μ-loop
 past-requires c κs = search needs

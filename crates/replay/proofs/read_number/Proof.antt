@@ -1,12 +1,12 @@
--- `replay::read_number` is safe and ends. The measure is what is left of the text. The test just before the product bounds it. Assumes nothing.
-use Prim.Native.Nat.{_-_}
+-- `read_number`: the place stays inside the text. The measure is what is left of it; the test just before the product bounds it. Assumes nothing.
+use Prim.Native.Nat.{_-_, _≤_}
 use lib.ListN.{length}
 use borrow.Author.Needs.{needs}
 use Rattle.replay.proofs.read_number.Statement.{statement}
 use Rattle.replay.proofs.read_number.Tie as tie
 
 abbrev Inv-loop : tie.InvT-loop
-Inv-loop src at value₀ i₀ value i = Unit {0}
+Inv-loop src at value₀ i₀ value i = (at ≤ i) × (i ≤ length src)
 
 abbrev μ-loop : tie.MeasureT-loop
 μ-loop src at value₀ i₀ value i = length src - i

@@ -1,4 +1,4 @@
--- `replay::replay_all` is safe and ends. The measure is what is left of the text: a case that does not go on ends the loop. Assumes nothing.
+-- `replay_all`: the measure is what is left of the text: a case that does not go on ends the loop. Assumes nothing.
 use Prim.Native.Nat.{_-_}
 use lib.ListN.{length}
 use borrow.Author.Needs.{needs}

@@ -1,0 +1,4 @@
+pub mod Decided
+pub mod Fills
+pub mod Cases
+pub mod Agreed

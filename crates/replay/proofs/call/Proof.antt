@@ -1,0 +1,41 @@
+-- `call`: the contract of the call that is made. Assumes nothing.
+use borrow.Author.Needs.{needs}
+use Rattle.replay.proofs.call.Statement.{statement}
+use Rattle.replay.proofs.call.Tie as tie
+
+enum-told : tie.Need-enum-told
+enum-told c = search needs
+
+check-requires : tie.Need-check-requires
+check-requires c κs = search needs
+
+enum-told-2 : tie.Need-enum-told-2
+enum-told-2 c = search needs
+
+unify-requires : tie.Need-unify-requires
+unify-requires c κs = search needs
+
+returns : tie.Need-returns
+returns c = rw (c .before .enum-told .given .1) (c .check .ensures)
+
+same-length : tie.Need-same-length
+same-length c = search needs
+
+same-length-2 : tie.Need-same-length-2
+same-length-2 c = search needs
+
+returns-2 : tie.Need-returns-2
+returns-2 c = rw (c .before .before .before .before .before .before .before .enum-told2 .given .1) (c .before .before .before .before .unify .ensures)
+
+pub call-spec : {M : Type 1} → statement M
+call-spec =
+    tie.close
+    (tie.spec
+    enum-told
+    check-requires
+    enum-told-2
+    unify-requires
+    returns
+    same-length
+    same-length-2
+    returns-2)

@@ -1,0 +1,61 @@
+-- What a stored case says of its call (harness/vectors/README.md).
+use mathlib.Core.Bool.{Bool, true, false}
+use mathlib.Core.Path.{_≡_}
+use mathlib.Core.List.{_++_}
+use Prim.Native.Nat.{ℕ, _-_}
+use lib.ListN.{length, replicate}
+use lib.Dec.{eqb, leb, ltb}
+use Rattle.semantics.specs.Bytes.{Bytes}
+use Rattle.semantics.specs.Calls.{Settled, unifyCall}
+use Rattle.cyrs.specs.Call.{settledBy}
+use Rattle.cyrs.specs.Checking.{CheckedAs, checkedBy, checkCall}
+use Rattle.cyrs.specs.declared.unifying.Call.{Call}
+use Rattle.replay.specs.declared.Want.{Want}
+use Rattle.replay.specs.declared.Kind.{Kind}
+use Rattle.replay.specs.declared.Kind.the-variants.{Sheet, Pair}
+
+-- `t`, and then `b` up to `n` bytes
+abbrev pub filled : Bytes → ℕ → ℕ → Bytes
+filled t n b = t ++ replicate (n - length t) b
+
+unfoldable pub among : ℕ → ℕ → ℕ → Bool
+among lo hi n = elim (ltb n lo) [ true ↦ false | false ↦ leb n hi ]
+
+-- the work area's bytes after an answer of this number: as lent at 1 and 2
+unfoldable pub workByte : ℕ → ℕ
+workByte n = elim (among 1 2 n) [ true ↦ 170 | false ↦ 0 ]
+
+-- the output's, behind the expected ones: zeros at 3 to 8
+unfoldable pub outByte : ℕ → ℕ
+outByte n = elim (among 3 8 n) [ true ↦ 0 | false ↦ 187 ]
+
+pub record Answers (c : Call) (want : Want) : Type 0 where
+  pub number : c .number ≡ want .number
+  pub first : c .first ≡ want .first
+  pub second : c .second ≡ want .second
+
+-- a pair: every number and every byte
+abbrev pub storedBy : Want → ℕ → ℕ → Bytes → Settled
+storedBy want w o e = settledBy (want .number) (want .first) (want .second) (replicate w (workByte (want .number))) (filled e o (outByte (want .number)))
+
+-- a sheet that can be read: accepted, or refused with 6 or 7
+unfoldable pub readable : ℕ → Bool
+readable n = elim (eqb n 0) [ true ↦ true | false ↦ among 6 7 n ]
+
+abbrev pub accepted : Want
+accepted = record { number = 0; first = 0; second = 0 }
+
+abbrev pub noSecond : Want → Want
+noSecond want = record { number = want .number; first = want .first; second = 0 }
+
+-- what validation alone must answer
+unfoldable pub readingOf : Want → Want
+readingOf want = elim (readable (want .number)) [ true ↦ accepted | false ↦ noSecond want ]
+
+abbrev pub checkedAs : Want → CheckedAs
+checkedAs want = checkedBy (readingOf want .number) (readingOf want .first)
+
+-- as long as no call types a sheet, its validation is judged
+abbrev pub Agrees : Kind → Bytes → Bytes → Bytes → Bytes → Want → Bytes → Type 0
+Agrees Sheet a b work out want e = checkCall a ≡ checkedAs want
+Agrees Pair a b work out want e = unifyCall a b work out ≡ storedBy want (length work) (length out) e
