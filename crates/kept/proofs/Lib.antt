@@ -1,0 +1,4 @@
+pub mod StateLaws
+pub mod ChildLaws
+pub mod ItemLaws
+pub mod FineLaws

@@ -1,0 +1,282 @@
+-- One text behind another, the lines of the faults, requirements by the kind of a type, and the whole report by its parts. Assumes nothing.
+use Prim.Native.Nat.{ℕ, _+_, _*_, _≤_}
+use native.Mathlib.Omega.{arith}
+use borrow.Author.Tests.{eq-eqb, ne-eqb, eqb-true}
+use mathlib.Core.Path.{_≡_, refl, sym, ap, ap₂, subst, _∙_}
+use mathlib.Core.Logic.{inl, inr}
+use mathlib.Core.List.{List, [], _∷_, _++_, append-assoc, map as mapL}
+use mathlib.Core.Bool.{Bool, true, false, _||_}
+use lib.Dec.{eqb}
+use lib.ListN.{length, set, length-append}
+use lib.Seq.{sets}
+use Rattle.semantics.specs.Bytes.{Bytes, text, unlines, shown, shownIn}
+use Rattle.semantics.specs.Ty.{Base, tUnknown, Ty, base, tList, tMap, tNode, tRelationship, tUnion, letter, among, matches}
+use Rattle.semantics.specs.Builtins.{ArgShape, Builtin, signature, describe}
+use Rattle.semantics.specs.Walk.{Fault, E2009, E2010, E2011, E2012, E2013, E5012, Top, Need, aNumber, aString, aBool, meeting, meets, faultOf, require, numeric, open?}
+use Rattle.semantics.specs.Calls.{typeName, faultText, faultLine, topLine, faultCount, endLine, topLines, reportLines, report}
+use Rattle.text.proofs.Laws.{sets-append}
+use Rattle.ty.specs.Read.{kindOf}
+use Rattle.ty.proofs.KindLaws.{name-part}
+use Rattle.builtins.proofs.Laws.{name-short, describe-short}
+use Rattle.report.specs.declared.Tally.{Tally}
+use Rattle.report.specs.Report.{faultsText, typeText, topsText, endText, startText, Appends, Adds, codeFault, IsCode, OpenKind, NumericKind}
+
+-- ## One text behind another
+
+infixr 20 _▹_
+pub _▹_ : {a b o o′ o″ : Bytes} {f f′ f″ : ℕ} → Appends a o o′ f f′ → Appends b o′ o″ f′ f″ → Appends (a ++ b) o o″ f f″
+_▹_ {a} {b} {o} {o′} {o″} {f} {f′} {f″} p q =
+    record {
+      text = q .text ∙ ap₂ (λ (x : Bytes) (k : ℕ). sets x k b) (p .text) (p .end) ∙ sym (sets-append o f a b);
+      end = omega (arith, p .end, q .end, length-append a b);
+    }
+
+-- what `append` and its like ensure, and `put`
+pub wrote : (s : Bytes) {o o′ : Bytes} {f r : ℕ} → (r ≡ f + length s) × (o′ ≡ sets o f s) → Appends s o o′ f r
+wrote s p = record { text = p .1; end = p .0 }
+
+pub one : (b : ℕ) {o o′ : Bytes} {f r : ℕ} → (r ≡ f + 1) × (o′ ≡ set o f b) → Appends (b ∷ []) o o′ f r
+one b p = record { text = p .1; end = p .0 }
+
+-- ## Faults
+
+pub faults-append : (fs gs : List Fault) → faultsText (fs ++ gs) ≡ faultsText fs ++ faultsText gs
+unfolding faultsText
+faults-append [] gs = refl
+faults-append (f ∷ fs) gs =
+    ap (λ (s : Bytes). faultLine f ++ (10 ∷ s)) (faults-append fs gs) ∙ sym (append-assoc (faultLine f) (10 ∷ faultsText fs) (faultsText gs))
+
+-- no faults, the text alone, and faults behind faults
+pub adds-none : {out : Bytes} {t : Tally} → Adds [] out out t t
+unfolding faultsText
+adds-none = record { text = refl; end = omega arith; count = omega arith }
+
+pub adds-text : {fs : List Fault} {out out′ : Bytes} {t t′ : Tally} → Adds fs out out′ t t′ → Appends (faultsText fs) out out′ (t .fill) (t′ .fill)
+adds-text p = record { text = p .text; end = p .end }
+
+pub adds-then : {fs gs : List Fault} {out out′ out″ : Bytes} {t t′ t″ : Tally} → Adds fs out out′ t t′ → Adds gs out′ out″ t′ t″ → Adds (fs ++ gs) out out″ t t″
+adds-then {fs} {gs} {out} {out′} {out″} {t} {t′} {t″} p q =
+    let w : Appends (faultsText fs ++ faultsText gs) out out″ (t .fill) (t″ .fill) = adds-text p ▹ adds-text q in
+    let e = faults-append fs gs in
+    record {
+      text = w .text ∙ ap (sets out (t .fill)) (sym e);
+      end = w .end ∙ ap (λ (s : Bytes). t .fill + length s) (sym e);
+      count = omega (arith, p .count, q .count, length-append fs gs);
+    }
+
+-- a line that was written, and counted
+pub adds-one : (f : Fault) {s out out′ : Bytes} {t t′ : Tally} {k : ℕ} → faultLine f ++ (10 ∷ []) ≡ s → Appends s out out′ (t .fill) k
+    → (t′ .fill ≡ k) × (t′ .faults ≡ t .faults + 1) → Adds (f ∷ []) out out′ t t′
+unfolding faultsText
+adds-one f {s} {out} {out′} {t} {t′} {k} e a n =
+    record {
+      text = a .text ∙ ap (sets out (t .fill)) (sym e);
+      end = n .0 ∙ a .end ∙ ap (λ (x : Bytes). t .fill + length x) (sym e);
+      count = n .1;
+    }
+
+-- the texts of the lines
+abbrev CodeLine : Ty → ℕ → Type 0
+CodeLine t c = faultLine (codeFault c t) ++ (10 ∷ []) ≡ startText c ++ (typeName t ++ (10 ∷ []))
+
+pub code-line : (c : ℕ) (t : Ty) → IsCode c → faultLine (codeFault c t) ++ (10 ∷ []) ≡ startText c ++ (typeName t ++ (10 ∷ []))
+unfolding faultLine faultText codeFault text shown shownIn
+code-line c t (inl e) = subst (CodeLine t) (sym e) refl
+code-line c t (inr (inl e)) = subst (CodeLine t) (sym e) refl
+code-line c t (inr (inr (inl e))) = subst (CodeLine t) (sym e) refl
+code-line c t (inr (inr (inr e))) = subst (CodeLine t) (sym e) refl
+
+pub in-line : (t u : Ty) → faultLine (E2012 t u) ++ (10 ∷ []) ≡ startText 2012 ++ (typeName t ++ (44 ∷ (typeName u ++ (10 ∷ []))))
+unfolding faultLine faultText text shown shownIn
+in-line t u = simp append-assoc
+
+pub call-line : (b : Builtin) (t : Ty) (s : ArgShape)
+    → faultLine (E5012 b t s) ++ (10 ∷ []) ≡ startText 5012 ++ (signature b .name ++ (44 ∷ (typeName t ++ (44 ∷ (describe s ++ (10 ∷ []))))))
+unfolding faultLine faultText text shown shownIn
+call-line b t s = simp append-assoc
+
+-- the one parameter
+pub only : {s p : ArgShape} → _≡_ {A = List ArgShape} (s ∷ []) (p ∷ []) → s ≡ p
+only e = cc
+
+-- how long they are
+pub type-name-short : (t : Ty) → length (typeName t) ≤ 12
+type-name-short t = name-part t .short
+
+line-short : (f : Fault) → length (faultLine f) ≤ 127
+unfolding faultLine faultText text
+line-short (E2009 t) = omega (arith, type-name-short t)
+line-short (E2010 t) = omega (arith, type-name-short t)
+line-short (E2011 t) = omega (arith, type-name-short t)
+line-short (E2013 t) = omega (arith, type-name-short t)
+line-short (E2012 t u) = omega (arith, type-name-short t, type-name-short u, length-append (typeName t) (44 ∷ typeName u))
+line-short (E5012 b t s) =
+    let x : Bytes = typeName t ++ (44 ∷ describe s) in
+    omega (arith, name-short b, type-name-short t, describe-short s, length-append (typeName t) (44 ∷ describe s), length-append (signature b .name) (44 ∷ x))
+
+pub fault-short : (f : Fault) → length (faultsText (f ∷ [])) ≤ 128
+unfolding faultsText
+fault-short f = omega (arith, line-short f, length-append (faultLine f) (10 ∷ []))
+
+pub faults-short : (fs : List Fault) → length (faultsText fs) ≤ 128 * length fs
+unfolding faultsText
+faults-short [] = omega arith
+faults-short (f ∷ fs) = omega (arith, line-short f, faults-short fs, length-append (faultLine f) (10 ∷ faultsText fs))
+
+-- ## Requirements
+
+-- a letter is that of one of these types
+unfoldable pub kindIn : ℕ → List Base → Bool
+kindIn k [] = false
+kindIn k (c ∷ cs) = eqb k (letter c) || kindIn k cs
+
+-- what the code asks of the letter
+open-kind : (t : Ty) → open? t ≡ eqb (kindOf t) 65 || (eqb (kindOf t) 80 || false)
+unfolding matches among kindOf letter
+open-kind (base b) = refl
+open-kind (tList t) = refl
+open-kind (tMap fs) = refl
+open-kind (tNode ls) = refl
+open-kind (tRelationship n) = refl
+open-kind (tUnion ts) = refl
+
+or-false : (b : Bool) → b || false ≡ b
+or-false b = elim b [ true ↦ refl | false ↦ refl ]
+
+or-true : (b : Bool) → b || true ≡ true
+or-true b = elim b [ true ↦ refl | false ↦ refl ]
+
+pub open-any : (k : ℕ) → k ≡ 65 → OpenKind k true
+open-any k q u e = sym (open-kind u ∙ ap (λ (j : ℕ). eqb j 65 || (eqb j 80 || false)) (e ∙ q))
+
+pub open-other : (k : ℕ) → (k ≡ 65 → ⊥) → OpenKind k (eqb k 80)
+open-other k q u e =
+    sym (open-kind u ∙ ap (λ (j : ℕ). eqb j 65 || (eqb j 80 || false)) e ∙ rw (ne-eqb k 65 q) (or-false (eqb k 80)))
+
+pub meets-string : (t : Ty) → meets aString t ≡ eqb (kindOf t) 71 || open? t
+unfolding meets matches among kindOf letter
+meets-string (base b) = refl
+meets-string (tList t) = refl
+meets-string (tMap fs) = refl
+meets-string (tNode ls) = refl
+meets-string (tRelationship n) = refl
+meets-string (tUnion ts) = refl
+
+pub meets-bool : (t : Ty) → meets aBool t ≡ eqb (kindOf t) 67 || open? t
+unfolding meets matches among kindOf letter
+meets-bool (base b) = refl
+meets-bool (tList t) = refl
+meets-bool (tMap fs) = refl
+meets-bool (tNode ls) = refl
+meets-bool (tRelationship n) = refl
+meets-bool (tUnion ts) = refl
+
+meets-number : (t : Ty) → meets aNumber t ≡ kindIn (kindOf t) (meeting aNumber)
+unfolding meets matches among kindIn kindOf letter
+meets-number (base b) = refl
+meets-number (tList t) = refl
+meets-number (tMap fs) = refl
+meets-number (tNode ls) = refl
+meets-number (tRelationship n) = refl
+meets-number (tUnion ts) = refl
+
+-- where a need of one kind is met
+module _ (n : Need) (k : ℕ) (is : (t : Ty) → meets n t ≡ eqb (kindOf t) k || open? t) (t : Ty) where
+  pub met-open : open? t ≡ true → meets n t ≡ true
+  met-open e = is t ∙ ap (λ (x : Bool). eqb (kindOf t) k || x) e ∙ or-true (eqb (kindOf t) k)
+
+  pub met-kind : kindOf t ≡ k → meets n t ≡ true
+  met-kind e = is t ∙ ap (λ (x : Bool). x || open? t) (eq-eqb (kindOf t) k e)
+
+  pub unmet : (kindOf t ≡ k → ⊥) → open? t ≡ false → meets n t ≡ false
+  unmet d e = is t ∙ ap₂ (λ (x y : Bool). x || y) (ne-eqb (kindOf t) k d) e
+
+-- the kind that arithmetic goes on with
+unfoldable pub numericKind : ℕ → ℕ
+numericKind k = elim (kindIn k (meeting aNumber)) [ true ↦ k | false ↦ 80 ]
+
+numeric-kind : (t : Ty) → kindOf (numeric t) ≡ numericKind (kindOf t)
+unfolding numeric numericKind
+numeric-kind t = go (meets aNumber t) (meets-number t)
+  where
+    go : (b : Bool) → b ≡ kindIn (kindOf t) (meeting aNumber)
+        → kindOf (elim b [ true ↦ t | false ↦ base tUnknown ]) ≡ elim (kindIn (kindOf t) (meeting aNumber)) [ true ↦ kindOf t | false ↦ 80 ]
+    go true e = rw (← e)
+    go false e = unfold kindOf letter in rw (← e)
+
+pub numeric-key : (b : Base) (k : ℕ) → k ≡ letter b → numericKind (letter b) ≡ letter b → NumericKind k (letter b)
+numeric-key b k q h =
+    record {
+      is = λ u e. sym (numeric-kind u ∙ ap numericKind (e ∙ q) ∙ h);
+      some = record { ty = base b; is = unfold kindOf in refl };
+    }
+
+pub numeric-rest : (k : ℕ) → (k ≡ 65 → ⊥) → (k ≡ 68 → ⊥) → (k ≡ 69 → ⊥) → (k ≡ 70 → ⊥) → NumericKind k 80
+numeric-rest k a b c d =
+    record {
+      is = λ u e. sym (numeric-kind u ∙ ap numericKind e ∙ rest);
+      some = record { ty = base tUnknown; is = unfold kindOf letter in refl };
+    }
+  where
+    last : (x : Bool) → eqb k 80 ≡ x → _≡_ {A = ℕ} (elim (x || false) [ true ↦ k | false ↦ 80 ]) 80
+    last true e = eqb-true k 80 e
+    last false e = refl
+
+    rest : numericKind k ≡ 80
+    rest = unfold numericKind kindIn letter in simp (numericKind, kindIn, ne-eqb k 65 a, ne-eqb k 68 b, ne-eqb k 69 c, ne-eqb k 70 d) (last (eqb k 80) refl)
+
+-- a number keeps its kind, and nothing else does
+pub numeric-same : (t : Ty) → kindOf (numeric t) ≡ kindOf t → meets aNumber t ≡ true
+unfolding numeric
+numeric-same t = go (meets aNumber t) (meets-number t)
+  where
+    go : (b : Bool) → b ≡ kindIn (kindOf t) (meeting aNumber) → kindOf (elim b [ true ↦ t | false ↦ base tUnknown ]) ≡ kindOf t → b ≡ true
+    go true e q = refl
+    go false e q = e ∙ ap (λ (k : ℕ). kindIn k (meeting aNumber)) (sym q) ∙ unfold kindIn kindOf letter in refl
+
+pub numeric-apart : (t : Ty) → (kindOf (numeric t) ≡ kindOf t → ⊥) → meets aNumber t ≡ false
+unfolding numeric
+numeric-apart t = go (meets aNumber t)
+  where
+    go : (b : Bool) → (kindOf (elim b [ true ↦ t | false ↦ base tUnknown ]) ≡ kindOf t → ⊥) → b ≡ false
+    go true q = absurd (q refl)
+    go false q = refl
+
+-- what is met adds nothing, what is not met adds its fault
+pub adds-met : (k : Need) (u : Ty) {out : Bytes} {t : Tally} → meets k u ≡ true → Adds (require k u) out out t t
+unfolding require
+adds-met k u e = rw (require, e) adds-none
+
+pub adds-unmet : (k : Need) (u : Ty) {out out′ : Bytes} {t t′ : Tally} → meets k u ≡ false → Adds (faultOf k u ∷ []) out out′ t t′ → Adds (require k u) out out′ t t′
+unfolding require
+adds-unmet k u e a = rw (require, e) a
+
+-- ## The whole report
+
+pub tops-append : (ts us : List Top) → topsText (ts ++ us) ≡ topsText ts ++ topsText us
+unfolding topsText
+tops-append [] us = refl
+tops-append (t ∷ ts) us = ap (λ (s : Bytes). faultsText (t .faults) ++ (typeText (t .ty) ++ s)) (tops-append ts us) ∙ simp append-assoc
+
+pub count-append : (ts us : List Top) → faultCount (ts ++ us) ≡ faultCount ts + faultCount us
+unfolding faultCount
+count-append [] us = omega arith
+count-append (t ∷ ts) us = omega (arith, count-append ts us)
+
+faults-lines : (fs : List Fault) (r : List Bytes) → unlines (mapL faultLine fs ++ r) ≡ faultsText fs ++ unlines r
+unfolding faultsText unlines
+faults-lines [] r = refl
+faults-lines (f ∷ fs) r =
+    ap (λ (s : Bytes). faultLine f ++ (10 ∷ s)) (faults-lines fs r) ∙ sym (append-assoc (faultLine f) (10 ∷ faultsText fs) (unlines r))
+
+tops-lines : (ts : List Top) (r : List Bytes) → unlines (topLines ts r) ≡ topsText ts ++ unlines r
+unfolding topLines topsText unlines
+tops-lines [] r = refl
+tops-lines (t ∷ ts) r =
+    faults-lines (t .faults) (topLine (t .ty) ∷ topLines ts r)
+    ∙ ap (λ (s : Bytes). faultsText (t .faults) ++ (topLine (t .ty) ++ (10 ∷ s))) (tops-lines ts r)
+    ∙ simp append-assoc
+
+pub report-parts : (ts : List Top) → report ts ≡ topsText ts ++ endText (length ts) (faultCount ts)
+unfolding report reportLines endLine unlines text
+report-parts ts = tops-lines ts (endLine ts ∷ []) ∙ ap (λ (s : Bytes). topsText ts ++ s) (simp append-assoc)

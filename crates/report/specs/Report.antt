@@ -1,0 +1,71 @@
+-- The lines of the report as the code writes them: appended to the output, what fits written, all counted.
+use mathlib.Core.Path.{_≡_}
+use mathlib.Core.Logic.{_⊎_}
+use mathlib.Core.List.{List, [], _∷_, _++_}
+use mathlib.Core.Bool.{Bool, true, false}
+use Prim.Native.Nat.{ℕ, _+_, _≤_}
+use lib.Dec.{eqb}
+use lib.ListN.{length}
+use lib.Seq.{sets}
+use Rattle.semantics.specs.Bytes.{Bytes, text, shown}
+use Rattle.semantics.specs.Ty.{Ty}
+use Rattle.semantics.specs.Walk.{Fault, E2009, E2010, E2011, E2013, Top, open?, numeric}
+use Rattle.semantics.specs.Calls.{faultLine, topLine}
+use Rattle.ty.specs.Read.{kindOf}
+use Rattle.ty.specs.Kind.{SomeKind}
+use Rattle.report.specs.declared.Tally.{Tally}
+
+-- the lines of some faults
+unfoldable pub faultsText : List Fault → Bytes
+faultsText [] = []
+faultsText (f ∷ fs) = faultLine f ++ (10 ∷ faultsText fs)
+
+-- a type line of the report
+abbrev pub typeText : Ty → Bytes
+typeText t = topLine t ++ (10 ∷ [])
+
+-- the lines of some top expressions: of each its faults and its type
+unfoldable pub topsText : List Top → Bytes
+topsText [] = []
+topsText (t ∷ ts) = faultsText (t .faults) ++ (typeText (t .ty) ++ topsText ts)
+
+-- the last line, by its two counts
+abbrev pub endText : ℕ → ℕ → Bytes
+endText n m = text "end," ++ (shown n ++ (44 ∷ (shown m ++ (10 ∷ []))))
+
+-- a fault line up to what it tells
+abbrev pub startText : ℕ → Bytes
+startText c = 70 ∷ 44 ∷ (shown c ++ (44 ∷ []))
+
+-- these bytes are behind what was filled, and no fault was counted
+pub record Appends (s : Bytes) (out out′ : Bytes) (fill fill′ : ℕ) : Type 0 where
+  pub text : out′ ≡ sets out fill s
+  pub end : fill′ ≡ fill + length s
+
+-- the same of a fault line's start, which is short
+pub record Starts (c : ℕ) (out out′ : Bytes) (fill fill′ : ℕ) : Type 0 where
+  pub appended : Appends (startText c) out out′ fill fill′
+  pub short : fill′ ≤ fill + 23
+
+-- these faults were added
+pub record Adds (fs : List Fault) (out out′ : Bytes) (t t′ : Tally) : Type 0 where
+  pub text : out′ ≡ sets out (t .fill) (faultsText fs)
+  pub end : t′ .fill ≡ t .fill + length (faultsText fs)
+  pub count : t′ .faults ≡ t .faults + length fs
+
+-- the fault of a code that tells one type
+unfoldable pub codeFault : ℕ → Ty → Fault
+codeFault c t =
+    elim (eqb c 2009) [ true ↦ E2009 t | false ↦ elim (eqb c 2010) [ true ↦ E2010 t | false ↦ elim (eqb c 2011) [ true ↦ E2011 t | false ↦ E2013 t ] ] ]
+
+abbrev pub IsCode : ℕ → Type 0
+IsCode c = (c ≡ 2009) ⊎ ((c ≡ 2010) ⊎ ((c ≡ 2011) ⊎ (c ≡ 2013)))
+
+-- the answer for every type of this kind
+abbrev pub OpenKind : ℕ → Bool → Type 0
+OpenKind k r = (u : Ty) → kindOf u ≡ k → r ≡ open? u
+
+-- the kind of `numeric` of every type of this kind, and of some type
+pub record NumericKind (k r : ℕ) : Type 0 where
+  pub is : (u : Ty) → kindOf u ≡ k → r ≡ kindOf (numeric u)
+  pub some : SomeKind r

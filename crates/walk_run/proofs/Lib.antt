@@ -1,0 +1,12 @@
+pub mod Levels
+pub mod LevelsUnify
+pub mod LevelsWalk
+pub mod Steps
+pub mod Fine
+pub mod Silent
+pub mod Quiet
+pub mod Firsts
+pub mod Pairs
+pub mod Literals
+pub mod Casing
+pub mod Theorem
