@@ -4,8 +4,9 @@
  * sets its returned numbers; what lent buffers hold afterwards follows from the number:
  *
  *   0  accepted: the text at the front of `out`, the rest of `out` as lent, `work` zeros
- *   2  `work` has not 65,536 bytes: both as lent
- *   6  a type is too large, 7 `out` is too short, 8 a text is no type line: both zeros
+ *   1  the sheet has more than 65,535 bytes, 2 `work` has not 65,536 bytes: both as lent
+ *   3  a line is badly written, 4 out of range, 5 nested too deep, 6 a type is too large, 7 `out` is too short, 8 a text is no type
+ *      line: both zeros
  *   9  the types do not unify: the expected and then the actual type line at the front of `out`, the rest as lent, `work` zeros
  *
  * The slices must not overlap one another.
@@ -26,9 +27,13 @@ extern "C" {
 uint32_t cyrs_unify(const uint8_t *a, size_t a_len, const uint8_t *b, size_t b_len, uint8_t *work, size_t work_len, uint8_t *out,
                     size_t out_len, uint64_t *first, uint64_t *second);
 
-/* Reads a sheet and types nothing; the call that types a sheet will replace it. It lends no buffer.
- * 0: the sheet can be read. 1: it has more than 65,535 bytes. 3 badly written, 4 out of range, 5 nested too deep: *place is the line,
- * from 1. Otherwise *place is 0. */
+/* Types a sheet: its report to `out`.
+ * 0: *first is the report's length. 3 to 6: *first is the line, from 1. Otherwise it is 0. */
+uint32_t cyrs_infer_types(const uint8_t *sheet, size_t sheet_len, uint8_t *work, size_t work_len, uint8_t *out, size_t out_len,
+                          uint64_t *first);
+
+/* Reads a sheet and types nothing: 0, or the refusal 1, 3, 4 or 5 that cyrs_infer_types would give. It is lent no buffer.
+ * 3, 4 and 5: *place is the line, from 1. Otherwise it is 0. */
 uint32_t cyrs_check_sheet(const uint8_t *sheet, size_t sheet_len, uint64_t *place);
 
 #ifdef __cplusplus

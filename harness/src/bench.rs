@@ -1,10 +1,10 @@
 //! The linked calls against the reference on the same inputs, in one run. Of unification both sides read two type lines and write
-//! one; of validation the library only reads, and the reference's reader makes the statement too.
+//! one; of validation the library only reads, and the reference's reader makes the statement too; typing is the whole sheet call.
 
 use crate::calls;
 use crate::generate::sheets::{deep_to, long};
 use crate::generate::tree::{Line, Tree};
-use crate::library::{check_call, unify_call, CheckCall, UnifyCall};
+use crate::library::{check_call, sheet_call, unify_call, CheckCall, SheetCall, UnifyCall};
 use crate::limits::{DEPTH, NAME_BYTES, SHEET_BYTES, UNIFY_OUT_BYTES, WORK_BYTES};
 use crate::random::Random;
 use crate::reference::stand_ins::SmolStr;
@@ -121,14 +121,17 @@ fn bare(a: &[u8], b: &[u8]) -> Option<Vec<u8>> {
 
 /// Prints a table for each linked call; false if there is none.
 pub fn run() -> bool {
-    let (unify, check) = (unify_call(), check_call());
+    let (unify, check, sheet) = (unify_call(), check_call(), sheet_call());
     if let Some(linked) = unify {
         unification(linked);
     }
     if let Some(linked) = check {
         validation(linked);
     }
-    let any = unify.is_some() || check.is_some();
+    if let Some(linked) = sheet {
+        typing(linked);
+    }
+    let any = unify.is_some() || check.is_some() || sheet.is_some();
     if !any {
         println!("no library is linked (CYRS_LIB was not set at build time): nothing measured");
     }
@@ -213,6 +216,15 @@ fn long_names() -> Vec<u8> {
     })
 }
 
+/// As many bound variables as returned ones, `gap` apart.
+fn variables(gap: u32) -> Vec<u8> {
+    let all = || (0..2_600).map(|i| i * gap);
+    let var = |v: u32| Line::new("var", &[&v.to_string()], Vec::new());
+    let mut tree = Tree::returning(all().map(var).collect());
+    tree.bindings = all().map(|v| (v, 'N')).collect();
+    tree.text()
+}
+
 /// Accepted sheets of each kind.
 fn sheets() -> Vec<(&'static str, Vec<Vec<u8>>)> {
     let rng = &mut Random::new(1);
@@ -248,5 +260,27 @@ fn validation(linked: CheckCall) {
             speed(ours),
             speed(theirs)
         );
+    }
+}
+
+fn typing(linked: SheetCall) {
+    println!("typing: nanoseconds for a sheet, least of {ROUNDS} rounds");
+    println!("family                bytes      library    reference");
+    let (mut work, mut out) = (vec![0; WORK_BYTES], vec![0; SHEET_BYTES + 1]);
+    let more = [
+        ("variables", vec![variables(1)]),
+        ("variables apart", vec![variables(7)]),
+    ];
+    for (name, sheets) in sheets().into_iter().chain(more) {
+        let all: usize = sheets.iter().map(Vec::len).sum();
+        let bytes = all / sheets.len();
+        let repeat = 1 + 1_000_000 / all;
+        let ours = nanoseconds(&sheets, repeat, |s| {
+            black_box(linked(s, &mut work, &mut out));
+        });
+        let theirs = nanoseconds(&sheets, repeat, |s| {
+            black_box(calls::sheet_call(s, &mut work, &mut out));
+        });
+        println!("{name:<18} {bytes:>8} {ours:>12.0} {theirs:>12.0}");
     }
 }

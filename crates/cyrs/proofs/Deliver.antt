@@ -23,7 +23,7 @@ part-line : (s : Bytes) (a e : ℕ) (t : Ty) → TypeAt s a e t → take (e - a)
 part-line s a e t p = part-slice a e s ∙ p .is
 
 -- a text at the front
-written-at : (out x : Bytes) → length x ≤ length out → sets out 0 x ≡ written x out
+pub written-at : (out x : Bytes) → length x ≤ length out → sets out 0 x ≡ written x out
 written-at out x h =
     let z : 0 + length x ≡ length x = omega arith in
     sets-parts out 0 x (omega arith) ∙ ap (λ (k : ℕ). x ++ drop k out) z

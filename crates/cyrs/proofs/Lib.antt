@@ -1,3 +1,4 @@
 pub mod Deliver
 pub mod CallLaws
+pub mod SheetLaws
 pub mod CheckLaws

@@ -1,13 +1,15 @@
 // The calls.
 mod checking;
+mod typing;
 mod unifying;
 
 ghost use mathlib.Core.Path.{_≡_};
-ghost use Rattle.semantics.specs.Calls.{unifyCall};
+ghost use Rattle.semantics.specs.Calls.{sheetCall, unifyCall};
 ghost use Rattle.cyrs.specs.Call.{settledBy};
 ghost use Rattle.cyrs.specs.Checking.{checkedBy, checkCall};
 pub use checking::Checked;
 pub use checking::check_sheet;
+pub use typing::infer_types;
 pub use unifying::Call;
 pub use unifying::unify_types;
 
@@ -30,7 +32,23 @@ pub extern "C" fn cyrs_unify(
     c.number
 }
 
-// Whether a sheet can be read: the number, and its line behind the reference. The call that types a sheet will replace it.
+// Types a sheet: the number, and its place or the report's length behind the reference.
+#[no_mangle]
+pub extern "C" fn cyrs_infer_types(
+    sheet: &[u8],
+    work: &mut [u8],
+    out: &mut [u8],
+    first: &mut u64,
+) -> u32
+    ensures { λ r. ⌜ settledBy r (now (first .exit)) 0 (now (work .exit)) (now (out .exit))
+        ≡ sheetCall (now (sheet .entry)) (now (work .entry)) (now (out .entry)) ⌝ }
+{
+    let c = infer_types(sheet, work, out);
+    *first = c.first;
+    c.number
+}
+
+// Whether a sheet can be read, with nothing typed: the number, and its line behind the reference.
 #[no_mangle]
 pub extern "C" fn cyrs_check_sheet(sheet: &[u8], place: &mut u64) -> u32
     ensures { λ r. ⌜ checkedBy r (now (place .exit)) ≡ checkCall (now (sheet .entry)) ⌝ }

@@ -6,16 +6,14 @@ use lib.Dec.{eqb}
 use lib.ListN.{length, replicate}
 use borrow.Author.Tests.{eqb-true, eqb-false}
 use Rattle.semantics.specs.Bytes.{Bytes}
-use Rattle.semantics.specs.Calls.{Settled, unifyCall}
+use Rattle.semantics.specs.Calls.{Settled}
 use Rattle.cyrs.specs.Call.{settledBy}
-use Rattle.cyrs.specs.Checking.{CheckedAs, checkedBy, checkCall}
 use Rattle.cyrs.specs.declared.unifying.Call.{Call}
 use Rattle.replay.specs.declared.Want.{Want}
 use Rattle.replay.specs.declared.Verdict.the-variants.{Same, Differs}
 use Rattle.replay.specs.Judged.{Decides, Judges}
-use Rattle.replay.specs.Stored.{filled, workByte, outByte, readingOf, Answers, checkedAs, storedBy}
+use Rattle.replay.specs.Stored.{filled, workByte, outByte, Answers, storedBy}
 use Rattle.replay.proofs.Decided.{holds, fails, same, differs}
-use Rattle.replay.proofs.Cases.{no-second}
 
 -- ## The numbers
 
@@ -34,25 +32,11 @@ last-decides c want n f = go (eqb (c .second) (want .second)) refl
     go true e = holds (record { number = n; first = f; second = eqb-true _ _ e })
     go false e = fails λ a. eqb-false _ _ e (a .second)
 
--- ## A sheet
+-- ## A call, by what its definition gives
 
-module _ (s : Bytes) (n p : ℕ) (want : Want) (told : checkedBy n p ≡ checkCall s) where
-  abbrev Told : Type 0
-  Told = Answers (record { number = n; first = p; second = 0 }) (readingOf want)
-
-  pub checked-same : Told → Judges Same (checkCall s ≡ checkedAs want)
-  checked-same a = same (sym told ∙ rw (a .number, a .first))
-
-  pub checked-differs : (Told → ⊥) → Judges Differs (checkCall s ≡ checkedAs want)
-  checked-differs d =
-      differs λ e. d (record { number = ap (λ (x : CheckedAs). x .number) (told ∙ e); first = ap (λ (x : CheckedAs). x .place) (told ∙ e); second = sym (no-second want) })
-
--- ## A pair
-
-module _ (a b work out work′ out′ expected : Bytes) (c : Call) (want : Want)
-    (told : settledBy (c .number) (c .first) (c .second) work′ out′ ≡ unifyCall a b work out) where
+module _ (U : Settled) (work out work′ out′ expected : Bytes) (c : Call) (want : Want) (told : settledBy (c .number) (c .first) (c .second) work′ out′ ≡ U) where
   abbrev Stored : Type 0
-  Stored = unifyCall a b work out ≡ storedBy want (length work) (length out) expected
+  Stored = U ≡ storedBy want (length work) (length out) expected
 
   abbrev Left : Type 0
   Left = (work′ ≡ replicate (length work′) (workByte (c .number))) × (out′ ≡ filled expected (length out′) (outByte (c .number)))

@@ -4,11 +4,10 @@ use mathlib.Core.Path.{_≡_}
 use mathlib.Core.List.{_++_}
 use Prim.Native.Nat.{ℕ, _-_}
 use lib.ListN.{length, replicate}
-use lib.Dec.{eqb, leb, ltb}
+use lib.Dec.{leb, ltb}
 use Rattle.semantics.specs.Bytes.{Bytes}
-use Rattle.semantics.specs.Calls.{Settled, unifyCall}
+use Rattle.semantics.specs.Calls.{Settled, sheetCall, unifyCall}
 use Rattle.cyrs.specs.Call.{settledBy}
-use Rattle.cyrs.specs.Checking.{CheckedAs, checkedBy, checkCall}
 use Rattle.cyrs.specs.declared.unifying.Call.{Call}
 use Rattle.replay.specs.declared.Want.{Want}
 use Rattle.replay.specs.declared.Kind.{Kind}
@@ -34,28 +33,10 @@ pub record Answers (c : Call) (want : Want) : Type 0 where
   pub first : c .first ≡ want .first
   pub second : c .second ≡ want .second
 
--- a pair: every number and every byte
+-- every number and every byte
 abbrev pub storedBy : Want → ℕ → ℕ → Bytes → Settled
 storedBy want w o e = settledBy (want .number) (want .first) (want .second) (replicate w (workByte (want .number))) (filled e o (outByte (want .number)))
 
--- a sheet that can be read: accepted, or refused with 6 or 7
-unfoldable pub readable : ℕ → Bool
-readable n = elim (eqb n 0) [ true ↦ true | false ↦ among 6 7 n ]
-
-abbrev pub accepted : Want
-accepted = record { number = 0; first = 0; second = 0 }
-
-abbrev pub noSecond : Want → Want
-noSecond want = record { number = want .number; first = want .first; second = 0 }
-
--- what validation alone must answer
-unfoldable pub readingOf : Want → Want
-readingOf want = elim (readable (want .number)) [ true ↦ accepted | false ↦ noSecond want ]
-
-abbrev pub checkedAs : Want → CheckedAs
-checkedAs want = checkedBy (readingOf want .number) (readingOf want .first)
-
--- as long as no call types a sheet, its validation is judged
 abbrev pub Agrees : Kind → Bytes → Bytes → Bytes → Bytes → Want → Bytes → Type 0
-Agrees Sheet a b work out want e = checkCall a ≡ checkedAs want
+Agrees Sheet a b work out want e = sheetCall a work out ≡ storedBy want (length work) (length out) e
 Agrees Pair a b work out want e = unifyCall a b work out ≡ storedBy want (length work) (length out) e

@@ -4,10 +4,9 @@ use libc::STDOUT_FILENO;
 ghost use mathlib.Core.Path.{_≡_};
 ghost use Prim.Native.Nat.{_≤_, _<_};
 ghost use lib.ListN.{length, replicate};
-ghost use Rattle.semantics.specs.Calls.{unifyCall};
-ghost use Rattle.cyrs.specs.Checking.{checkCall};
+ghost use Rattle.semantics.specs.Calls.{sheetCall, unifyCall};
 ghost use Rattle.replay.specs.Judged.{Decides, Judges};
-ghost use Rattle.replay.specs.Stored.{filled, workByte, outByte, readingOf, Answers, checkedAs, storedBy, Agrees};
+ghost use Rattle.replay.specs.Stored.{filled, workByte, outByte, Answers, storedBy, Agrees};
 
 // What the two buffers are filled with before a call: bytes that no text has.
 const WORK_FILL: u8 = 170;
@@ -248,45 +247,22 @@ fn is_answer(c: cyrs::Call, want: Want) -> bool
     c.second == want.second as u64
 }
 
-// What validation alone must answer: a sheet that can be read is accepted.
-fn reading(want: Want) -> Want
-    ensures { λ r. ⌜ r ≡ readingOf want ⌝ }
+// Types a sheet, and says whether the answer and the buffers are as the case says.
+fn infer(sheet: &[u8], work: &mut [u8], out: &mut [u8], want: Want, expected: &[u8]) -> Verdict
+    ensures { λ r. ⌜ Judges r (sheetCall (now (sheet .entry)) (now (work .entry)) (now (out .entry))
+        ≡ storedBy want (length (now (work .entry))) (length (now (out .entry))) (now (expected .entry))) ⌝ }
 {
-    let number = want.number;
-    match number {
-        0 | 6 | 7 => Want {
-            number: 0,
-            first: 0,
-            second: 0,
-        },
-        _ => Want {
-            number: number,
-            first: want.first,
-            second: 0,
-        },
+    let c = cyrs::infer_types(sheet, work, out);
+    if !is_answer(c, want) {
+        return Verdict::Differs;
     }
-}
-
-// Validates a sheet, as long as there is no call that types it. It is lent no work area, so 2 is not judged.
-fn check(sheet: &[u8], want: Want) -> Verdict
-    ensures { λ r. ⌜ Judges r (checkCall (now (sheet .entry)) ≡ checkedAs want) ⌝ }
-{
-    if want.number == 2 {
-        return Verdict::Skipped;
-    }
-    let c = cyrs::check_sheet(sheet);
-    let told = cyrs::Call {
-        number: c.number,
-        first: c.place,
-        second: 0,
-    };
-    if is_answer(told, reading(want)) {
+    if is_left(c.number, work, out, expected) {
         return Verdict::Same;
     }
     Verdict::Differs
 }
 
-// Unifies, and says whether the answer and the buffers are as the case says.
+// Unifies, likewise.
 fn unify(
     a: &[u8],
     b: &[u8],
@@ -321,7 +297,7 @@ fn call(
     ensures { λ r. ⌜ Judges r (Agrees kind (now (a .entry)) (now (b .entry)) (now (work .entry)) (now (out .entry)) want (now (expected .entry))) ⌝ }
 {
     match kind {
-        Kind::Sheet => check(a, want),
+        Kind::Sheet => infer(a, work, out, want, expected),
         Kind::Pair => unify(a, b, work, out, want, expected),
     }
 }

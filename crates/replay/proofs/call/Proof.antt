@@ -6,8 +6,8 @@ use Rattle.replay.proofs.call.Tie as tie
 enum-told : tie.Need-enum-told
 enum-told c = search needs
 
-check-requires : tie.Need-check-requires
-check-requires c κs = search needs
+infer-requires : tie.Need-infer-requires
+infer-requires c κs = search needs
 
 enum-told-2 : tie.Need-enum-told-2
 enum-told-2 c = search needs
@@ -15,14 +15,20 @@ enum-told-2 c = search needs
 unify-requires : tie.Need-unify-requires
 unify-requires c κs = search needs
 
-returns : tie.Need-returns
-returns c = rw (c .before .enum-told .given .1) (c .check .ensures)
-
 same-length : tie.Need-same-length
 same-length c = search needs
 
 same-length-2 : tie.Need-same-length-2
 same-length-2 c = search needs
+
+returns : tie.Need-returns
+returns c = rw (c .before .before .before .before .before .before .before .enum-told .given .1) (c .before .before .before .before .infer .ensures)
+
+same-length-3 : tie.Need-same-length-3
+same-length-3 c = search needs
+
+same-length-4 : tie.Need-same-length-4
+same-length-4 c = search needs
 
 returns-2 : tie.Need-returns-2
 returns-2 c = rw (c .before .before .before .before .before .before .before .enum-told2 .given .1) (c .before .before .before .before .unify .ensures)
@@ -32,10 +38,12 @@ call-spec =
     tie.close
     (tie.spec
     enum-told
-    check-requires
+    infer-requires
     enum-told-2
     unify-requires
-    returns
     same-length
     same-length-2
+    returns
+    same-length-3
+    same-length-4
     returns-2)

@@ -18,7 +18,7 @@ same-length-2 : tie.Need-same-length-2
 same-length-2 c = search needs
 
 returns : tie.Need-returns
-returns c = numbers-differ _ _ _ _ _ _ (c .before .before .before .before .before .before .before .before .before .before .before .before .before .before .args .expected .now) _ _ (c .before .before .before .before .before .before .unify-types .ensures) (c .before .is-answer .ensures .no (not-true _ (c .if1 .taken)))
+returns c = numbers-differ _ (c .before .before .before .before .before .before .before .before .before .before .before .before .before .before .args .work .now) (c .before .before .before .before .before .before .before .before .before .before .before .before .before .before .args .out .now) _ _ (c .before .before .before .before .before .before .before .before .before .before .before .before .before .before .args .expected .now) _ _ (c .before .before .before .before .before .before .unify-types .ensures) (c .before .is-answer .ensures .no (not-true _ (c .if1 .taken)))
 
 is-left-requires : tie.Need-is-left-requires
 is-left-requires c κs = search needs
@@ -30,7 +30,7 @@ same-length-4 : tie.Need-same-length-4
 same-length-4 c = search needs
 
 returns-2 : tie.Need-returns-2
-returns-2 c = left-same _ _ _ _ _ _ (c .before .before .before .before .before .before .before .before .before .before .before .before .before .before .before .before .before .before .args .expected .now) _ _ (c .before .before .before .before .before .before .before .before .before .before .unify-types .ensures) (c .before .before .before .before .before .before .before .before .before .before .unify-types .kept .1 .1 .0) (c .before .before .before .before .before .before .before .before .before .before .unify-types .kept .1 .1 .1 .0) (c .before .before .before .before .before .is-answer .ensures .yes (not-false _ (c .before .before .before .before .if1 .left))) (c .before .is-left .ensures .yes (c .if2 .taken))
+returns-2 c = left-same _ (c .before .before .before .before .before .before .before .before .before .before .before .before .before .before .before .before .before .before .args .work .now) (c .before .before .before .before .before .before .before .before .before .before .before .before .before .before .before .before .before .before .args .out .now) _ _ (c .before .before .before .before .before .before .before .before .before .before .before .before .before .before .before .before .before .before .args .expected .now) _ _ (c .before .before .before .before .before .before .before .before .before .before .unify-types .ensures) (c .before .before .before .before .before .before .before .before .before .before .unify-types .kept .1 .1 .0) (c .before .before .before .before .before .before .before .before .before .before .unify-types .kept .1 .1 .1 .0) (c .before .before .before .before .before .is-answer .ensures .yes (not-false _ (c .before .before .before .before .if1 .left))) (c .before .is-left .ensures .yes (c .if2 .taken))
 
 same-length-5 : tie.Need-same-length-5
 same-length-5 c = search needs
@@ -39,7 +39,7 @@ same-length-6 : tie.Need-same-length-6
 same-length-6 c = search needs
 
 returns-3 : tie.Need-returns-3
-returns-3 c = left-differs _ _ _ _ _ _ (c .before .before .before .before .before .before .before .before .before .before .before .before .before .before .before .before .before .before .args .expected .now) _ _ (c .before .before .before .before .before .before .before .before .before .before .unify-types .ensures) (c .before .before .before .before .before .before .before .before .before .before .unify-types .kept .1 .1 .0) (c .before .before .before .before .before .before .before .before .before .before .unify-types .kept .1 .1 .1 .0) (c .before .before .before .before .before .is-answer .ensures .yes (not-false _ (c .before .before .before .before .if1 .left))) (c .before .is-left .ensures .no (c .if2 .left))
+returns-3 c = left-differs _ (c .before .before .before .before .before .before .before .before .before .before .before .before .before .before .before .before .before .before .args .work .now) (c .before .before .before .before .before .before .before .before .before .before .before .before .before .before .before .before .before .before .args .out .now) _ _ (c .before .before .before .before .before .before .before .before .before .before .before .before .before .before .before .before .before .before .args .expected .now) _ _ (c .before .before .before .before .before .before .before .before .before .before .unify-types .ensures) (c .before .before .before .before .before .before .before .before .before .before .unify-types .kept .1 .1 .0) (c .before .before .before .before .before .before .before .before .before .before .unify-types .kept .1 .1 .1 .0) (c .before .before .before .before .before .is-answer .ensures .yes (not-false _ (c .before .before .before .before .if1 .left))) (c .before .is-left .ensures .no (c .if2 .left))
 
 pub unify-spec : {M : Type 1} → statement M
 unify-spec =

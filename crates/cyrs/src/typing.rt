@@ -1,0 +1,75 @@
+// The call that types a sheet.
+ghost use mathlib.Core.Path.{_≡_};
+ghost use Prim.Native.Nat.{_≤_};
+ghost use lib.ListN.{length};
+ghost use Rattle.semantics.specs.Limits.{sheetLimit, workSize};
+ghost use Rattle.semantics.specs.Calls.{sheetCall};
+ghost use Rattle.cyrs.specs.Call.{settledBy};
+ghost use Rattle.cyrs.specs.Typed.{Types};
+use crate::unifying::Call;
+use infer::Cur;
+use infer::Env;
+use infer::Report;
+
+// A refusal and its place.
+fn refusal(number: u32, place: u64) -> Call
+    ensures { λ r. ⌜ r ≡ record { number = number; first = place; second = 0 } ⌝ }
+{
+    Call {
+        number,
+        first: place,
+        second: 0,
+    }
+}
+
+// The whole sheet read, and then its clauses typed.
+fn type_sheet(sheet: &[u8], work: &mut [u8], out: &mut [u8]) -> Call
+    requires { ⌜ (length (now sheet) ≤ sheetLimit) × (length (now work) ≡ workSize) ⌝ }
+    ensures { λ r. ⌜ Types (sheetCall (now (sheet .entry)) (now (work .entry)) (now (out .entry)))
+        (now (work .entry)) (now (out .entry)) (now (out .exit)) r ⌝ }
+{
+    let o = hir::check_sheet(sheet, semantics::DEPTH_LIMIT);
+    let line = o.line;
+    if o.why != 0 {
+        return refusal(o.why, line.0 as u64);
+    }
+    let b = Env {
+        from: o.from,
+        to: o.to,
+    };
+    let c = Cur { at: o.to, line };
+    let r = infer::check_statement(b, sheet, c, work, out);
+    match r {
+        Report::Made(n) => {
+            if n > out.len() {
+                return refusal(7, 0);
+            }
+            Call {
+                number: 0,
+                first: n as u64,
+                second: 0,
+            }
+        }
+        Report::TooLarge(l) => refusal(6, l.0 as u64),
+    }
+}
+
+// The whole call: number, place or length, and what both buffers have afterwards.
+pub fn infer_types(sheet: &[u8], work: &mut [u8], out: &mut [u8]) -> Call
+    ensures { λ r. ⌜ settledBy (r .number) (r .first) (r .second) (now (work .exit)) (now (out .exit))
+        ≡ sheetCall (now (sheet .entry)) (now (work .entry)) (now (out .entry)) ⌝ }
+{
+    if sheet.len() > semantics::SHEET_LIMIT {
+        return refusal(1, 0);
+    }
+    if work.len() != semantics::WORK_SIZE {
+        return refusal(2, 0);
+    }
+    let c = type_sheet(sheet, work, out);
+    text::clear(work);
+    if c.number == 0 {
+        return c;
+    }
+    text::clear(out);
+    c
+}

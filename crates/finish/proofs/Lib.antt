@@ -1,0 +1,6 @@
+pub mod Fronts
+pub mod States
+pub mod Meets
+pub mod OpLaws
+pub mod InLaws
+pub mod CallLaws

@@ -1,0 +1,147 @@
+// Unary and binary operators (`infer_unaryop`, `infer_binop`).
+ghost use mathlib.Core.Path.{_≡_};
+ghost use Prim.Native.Nat.{_≤_};
+ghost use lib.ListN.{length};
+ghost use Rattle.semantics.specs.Bytes.{Bytes};
+ghost use Rattle.semantics.specs.Ty.{Ty};
+ghost use Rattle.semantics.specs.Walk.{op, unaryType, unaryFaults, aNumber, aString, aBool};
+ghost use Rattle.semantics.specs.Walk.{comparison as comparisonOp};
+ghost use Rattle.walk_run.specs.Run.{kept, told, endOp};
+ghost use Rattle.finish.specs.End.{Ends, Countable, KeptAt, TwoAt, SomeTwo, SomeOne};
+ghost use Rattle.finish.specs.Steps.{SomeKinds, TwoAsked, Computed, opNumber};
+use crate::Ended;
+use crate::front::is_bool;
+use crate::front::put_letter;
+use crate::front::put_pair;
+use kept::St;
+use report::Tally;
+use unify::Unified;
+
+// A unary operator: 0 is `Neg`, 1 is `Not`.
+pub fn infer_unaryop(num: u64, work: &mut [u8], out: &mut [u8], tally: Tally, st: St) -> Ended
+    requires { ⌜ SomeOne (now work) st × Countable tally ⌝ }
+    ensures { λ r. ⌜ ((t : Ty) → KeptAt (kept t) (now (work .entry)) st → Ends (told (unaryType num t) (unaryFaults num t)) (now (work .entry)) (now (work .exit)) (now (out .entry)) (now (out .exit)) tally r) ⌝ }
+{
+    let a = work[0];
+    if num == 0 {
+        let c = report::require_numeric(a, out, tally);
+        return Ended::Typed {
+            len: put_letter(work, report::numeric(a)),
+            tally: c,
+        };
+    }
+    let c = report::require_bool(a, out, tally);
+    is_bool(work, c)
+}
+
+// Arithmetic over two operands' letters.
+fn arithmetic(work: &mut [u8], a: u8, b: u8, tally: Tally) -> Ended
+    requires { ⌜ (8192 ≤ length (now work)) × SomeKinds a b ⌝ }
+    ensures { λ r. ⌜ Computed a b (now (work .entry)) (now (work .exit)) tally r ⌝ }
+{
+    put_pair(work, report::numeric(a), report::numeric(b));
+    match unify::unify(work, 0, 2, 2, 4, 4) {
+        Unified::Done(end) => {
+            let n = end - 4;
+            text::copy_in(work, 4, 0, n);
+            Ended::Typed { len: n, tally }
+        }
+        Unified::Mismatch {
+            a: _,
+            ae: _,
+            b: _,
+            be: _,
+        } => Ended::Typed {
+            len: put_letter(work, 80),
+            tally,
+        },
+        Unified::TooLarge => Ended::Large,
+    }
+}
+
+// A comparison: only whether the operands' unification is too large.
+fn comparison(st: St, work: &mut [u8], tally: Tally) -> Ended
+    requires { ⌜ SomeTwo (now work) st ⌝ }
+    ensures { λ r. ⌜ ((a b : Ty) (out : Bytes) → TwoAt a b (now (work .entry)) st → Ends (endOp comparisonOp a b) (now (work .entry)) (now (work .exit)) out out tally r) ⌝ }
+{
+    let k = st.len;
+    let e = k + st.second;
+    match unify::unify(work, 0, k, k, e, e) {
+        Unified::Done(_) => is_bool(work, tally),
+        Unified::Mismatch {
+            a: _,
+            ae: _,
+            b: _,
+            be: _,
+        } => is_bool(work, tally),
+        Unified::TooLarge => Ended::Large,
+    }
+}
+
+// The operator's kind: 0 arithmetic, 1 equality, 2 comparison, 3 boolean, 4 string, 5 concatenation.
+fn op_kind(num: u64) -> usize
+    ensures { λ r. ⌜ r ≡ opNumber (op num) ⌝ }
+{
+    if num < 8 {
+        return if num < 6 { 0 } else { 1 };
+    }
+    if num < 15 {
+        return if num < 12 { 2 } else { 3 };
+    }
+    if num < 19 { 4 } else { 5 }
+}
+
+fn two_numbers(a: u8, b: u8, out: &mut [u8], tally: Tally) -> Tally
+    requires { ⌜ SomeKinds a b × Countable tally ⌝ }
+    ensures { λ r. ⌜ TwoAsked aNumber a b (now (out .entry)) (now (out .exit)) tally r ⌝ }
+{
+    let d = report::require_numeric(a, out, tally);
+    report::require_numeric(b, out, d)
+}
+
+fn two_bools(a: u8, b: u8, out: &mut [u8], tally: Tally) -> Tally
+    requires { ⌜ SomeKinds a b × Countable tally ⌝ }
+    ensures { λ r. ⌜ TwoAsked aBool a b (now (out .entry)) (now (out .exit)) tally r ⌝ }
+{
+    let d = report::require_bool(a, out, tally);
+    report::require_bool(b, out, d)
+}
+
+fn two_strings(a: u8, b: u8, out: &mut [u8], tally: Tally) -> Tally
+    requires { ⌜ SomeKinds a b × Countable tally ⌝ }
+    ensures { λ r. ⌜ TwoAsked aString a b (now (out .entry)) (now (out .exit)) tally r ⌝ }
+{
+    let d = report::require_string(a, out, tally);
+    report::require_string(b, out, d)
+}
+
+// A binary operator over its operands' types, [0..len) and `second` bytes behind them.
+pub fn infer_binop(num: u64, st: St, work: &mut [u8], out: &mut [u8], tally: Tally) -> Ended
+    requires { ⌜ SomeTwo (now work) st × Countable tally ⌝ }
+    ensures { λ r. ⌜ ((a b : Ty) → TwoAt a b (now (work .entry)) st → Ends (endOp (op num) a b) (now (work .entry)) (now (work .exit)) (now (out .entry)) (now (out .exit)) tally r) ⌝ }
+{
+    let k = st.len;
+    let a = work[0];
+    let b = work[k];
+    let kind = op_kind(num);
+    match kind {
+        0 => {
+            let c = two_numbers(a, b, out, tally);
+            arithmetic(work, a, b, c)
+        }
+        1 => is_bool(work, tally),
+        2 => comparison(st, work, tally),
+        3 => {
+            let c = two_bools(a, b, out, tally);
+            is_bool(work, c)
+        }
+        4 => {
+            let c = two_strings(a, b, out, tally);
+            is_bool(work, c)
+        }
+        _ => Ended::Typed {
+            len: put_letter(work, 65),
+            tally,
+        },
+    }
+}

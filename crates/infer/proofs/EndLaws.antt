@@ -1,0 +1,637 @@
+-- The ends of expressions by the numbers of their rules, and the types of constants. Assumes nothing.
+use mathlib.Core.Path.{_≡_, refl, sym, _∙_, ap, subst}
+use mathlib.Core.List.{List, [], _∷_, map}
+use mathlib.Core.Option.{Option, none, some}
+use mathlib.Core.Bool.{Bool, true, false, _&&_}
+use Prim.Native.Nat.{ℕ, suc, zero, _≤_, _<_}
+use native.Mathlib.Omega.{arith}
+use lib.Dec.{eqb, leb}
+use lib.ListN.{length, getD, take, drop, length-take}
+use lib.Seq.{slice, slice-empty}
+use Rattle.semantics.specs.Bytes.{Bytes, hex, unhex, split, decimal}
+use Rattle.semantics.specs.Limits.{variableLimit}
+use Rattle.semantics.specs.Ty.{tAny, Ty, base, tList, tMap, Fields, ∅ᶠ, letter, line, lineTo, fieldsTo}
+use Rattle.semantics.specs.Builtins.{lookup, elementOf, listOr}
+use Rattle.semantics.specs.Sheet.{Word, CYRS, B, END, MAT, CRE, MER, WHE, WIT, RET, UNW, SET, REM, DEL, CAL, PRO, SP, SL, SM, RP, RL, LAB, PARTS, PART, NOD, REL, NULL, BOOL, INT, FLT, STR, VAR, PAR, UNR, EXI, PROP, IDX, SLI, LIS, MAP, KEY, CALL, BIN, UNA, CASE, ISN, IN, PAT, LCP, PCP, LPR, MPR, COP, COM, SHO, ALI, Head, variable, num, variableOf, Typing, constant, varType, element, slice as slicing, listing, mapping, calling, operator, unary, casing, membership, comprehension, Rule, silent, entering, typed, row, rule, wrong, variableV, into, within, value, Read, bad, ok, fill, bare, wordIn, words}
+use Rattle.semantics.specs.Walk.{Env, kindType, varTypeOf, op, unaryType, unaryFaults, callType, callFaults}
+use Rattle.semantics.proofs.Named.{Maybe, Digits}
+use Rattle.semantics.proofs.Reader.{unhex-sound}
+use Rattle.text.specs.Text.{digitOf}
+use Rattle.text.proofs.Words.{values-unhex}
+use Rattle.line.specs.Rows.{wordNo}
+use Rattle.line.specs.Line.{Plain, unknown, known, wordSays, piecesSay, lineSays}
+use Rattle.line.specs.declared.line.Head.{Head as Seen}
+use Rattle.hir.specs.Lines.{LineAt}
+use Rattle.hir.specs.Bind.{BindsAt}
+use Rattle.hir.specs.Bind.{kindOf as bindKind}
+use Rattle.ty.specs.Parts.{TypeAt}
+use Rattle.builtins.specs.Rows.{Returned}
+use Rattle.report.specs.declared.Tally.{Tally}
+use Rattle.report.proofs.ReportLaws.{adds-none}
+use Rattle.walk_run.specs.Run.{Kept, empty, over, kept, both, items, last, entries, arms, Told, told, firstOf, secondOf, argsOf, endOp, endIn, endList, endMap, endCase, endLast, end}
+use Rattle.kept.specs.State.{textOf, place, ArmForm}
+use Rattle.kept.specs.declared.St.{St}
+use Rattle.finish.specs.End.{Puts, Ends, Countable, KeptAt, TwoAt, SomeTwo, SomeOne, argKept, SomeArg, SomeItems, SomeArms, SomeLast}
+use Rattle.finish.specs.declared.Ended.{Ended}
+use Rattle.finish.specs.declared.Ended.the-variants.{Typed}
+use Rattle.finish.proofs.Fronts.{put-type}
+use Rattle.infer.specs.Steps.{typingNo, ruleNo, AtMostOne, One, Two, Items, LastOne, Entries, EnvAs, EndAt, SomeEnd, EndedBy, SpeltAs, LetterBy, ConstantBy, SomeQuiet, QuietBy}
+use Rattle.infer.specs.declared.step.Env.{Env as Binds}
+use Rattle.infer.proofs.RoleLaws.{inOrder, word-is, Missed, missed-out, rest-rule}
+use Rattle.infer.proofs.StepLaws.{typingOf, typing-at}
+
+-- ## Names
+
+drop-past : (n : ℕ) (l : Bytes) → length l ≤ n → drop n l ≡ []
+drop-past zero [] h = refl
+drop-past (suc n) [] h = refl
+drop-past zero (x ∷ l) h = absurd (omega arith)
+drop-past (suc n) (x ∷ l) h = drop-past n l (omega arith)
+
+pub spelt-end : {name stop : ℕ} → stop ≤ name → SpeltAs name stop stop
+spelt-end {name} {stop} h =
+    record { below = omega arith; same = λ s. slice-empty stop s ∙ sym (drop-past name (take stop s) (omega (arith, length-take stop s))) }
+
+-- the digits of a name that is read spell it
+pub name-spelt : (s n : Bytes) → unhex s ≡ some n → s ≡ map hex n
+name-spelt s n e = sym (subst (Maybe (λ (m : Bytes). (map hex m ≡ s) × Digits m)) e (unhex-sound s) .0)
+
+-- ## Constants
+
+unfoldable pub letters : List ℕ
+letters = 80 ∷ 80 ∷ 80 ∷ 80 ∷ 80 ∷ 80 ∷ 80 ∷ 80 ∷ 80 ∷ 80 ∷ 80 ∷ 80 ∷ 80 ∷ 80 ∷ 80 ∷ 80 ∷ 80 ∷ 80 ∷ 80 ∷ 80 ∷ 80 ∷ 80 ∷ 80 ∷ 80 ∷ 80 ∷ 80 ∷ 66 ∷ 67 ∷ 68 ∷ 69 ∷ 71 ∷ 80 ∷ 65 ∷ 80 ∷ 80 ∷ 65 ∷ 80 ∷ 80 ∷ 80 ∷ 80 ∷ 80 ∷ 80 ∷ 80 ∷ 80 ∷ 80 ∷ 67 ∷ 80 ∷ 67 ∷ 80 ∷ 80 ∷ 67 ∷ []
+
+constantLine : Rule → Bytes
+constantLine silent = 80 ∷ 44 ∷ []
+constantLine entering = 80 ∷ 44 ∷ []
+constantLine (typed (constant t)) = line t
+constantLine (typed varType) = 80 ∷ 44 ∷ []
+constantLine (typed element) = 80 ∷ 44 ∷ []
+constantLine (typed slicing) = 80 ∷ 44 ∷ []
+constantLine (typed listing) = 80 ∷ 44 ∷ []
+constantLine (typed mapping) = 80 ∷ 44 ∷ []
+constantLine (typed calling) = 80 ∷ 44 ∷ []
+constantLine (typed operator) = 80 ∷ 44 ∷ []
+constantLine (typed unary) = 80 ∷ 44 ∷ []
+constantLine (typed casing) = 80 ∷ 44 ∷ []
+constantLine (typed membership) = 80 ∷ 44 ∷ []
+constantLine (typed comprehension) = 80 ∷ 44 ∷ []
+
+line-row : (v : Word) → (wordNo v ≡ 51 → ⊥) → getD letters (wordNo v) 80 ∷ 44 ∷ [] ≡ constantLine (row v .rule)
+unfolding letters constantLine wordNo row line lineTo letter
+line-row CYRS n = refl
+line-row B n = refl
+line-row END n = refl
+line-row MAT n = refl
+line-row CRE n = refl
+line-row MER n = refl
+line-row WHE n = refl
+line-row WIT n = refl
+line-row RET n = refl
+line-row UNW n = refl
+line-row SET n = refl
+line-row REM n = refl
+line-row DEL n = refl
+line-row CAL n = refl
+line-row PRO n = refl
+line-row SP n = refl
+line-row SL n = refl
+line-row SM n = refl
+line-row RP n = refl
+line-row RL n = refl
+line-row LAB n = refl
+line-row PARTS n = refl
+line-row PART n = refl
+line-row NOD n = refl
+line-row REL n = refl
+line-row NULL n = refl
+line-row BOOL n = refl
+line-row INT n = refl
+line-row FLT n = refl
+line-row STR n = refl
+line-row VAR n = refl
+line-row PAR n = refl
+line-row UNR n = refl
+line-row EXI n = refl
+line-row PROP n = refl
+line-row IDX n = refl
+line-row SLI n = refl
+line-row LIS n = refl
+line-row MAP n = refl
+line-row KEY n = refl
+line-row CALL n = refl
+line-row BIN n = refl
+line-row UNA n = refl
+line-row CASE n = refl
+line-row ISN n = refl
+line-row IN n = refl
+line-row PAT n = refl
+line-row LCP n = refl
+line-row PCP n = refl
+line-row LPR n = refl
+line-row MPR n = absurd (n refl)
+line-row COP n = refl
+line-row COM n = refl
+line-row SHO n = refl
+line-row ALI n = refl
+
+map-row : (v : Word) → v ≡ MPR → 75 ∷ 44 ∷ 33 ∷ 44 ∷ [] ≡ constantLine (row v .rule)
+unfolding constantLine row line lineTo fieldsTo
+map-row v e = rw e
+
+pub arm-letter : (k n w : ℕ) → getD letters k 80 ≡ n → w ≡ k → LetterBy w n
+unfolding constantLine
+arm-letter k n w t o v u e r m =
+    ap (λ (i : ℕ). i ∷ 44 ∷ []) (sym t ∙ ap (λ (i : ℕ). getD letters i 80) (sym o ∙ e)) ∙ (line-row v (λ z. m (e ∙ z)) ∙ ap constantLine r)
+
+pub rest-letter : (n w : ℕ) → Missed 26 25 w → LetterBy w n
+unfolding ruleNo typingNo
+rest-letter n w p v t e r m =
+    let z = rest-rule v (rw e at p, λ o. m (e ∙ o)) in
+    let y : ruleNo (row v .rule) ≡ 0 = ap ruleNo r in
+    absurd (omega arith)
+
+module _ {s s′ : Bytes} {r : ℕ} (w : ℕ) (h : 1024 ≤ length s) where
+  pub constant-map : w ≡ 51 → Puts (75 ∷ 44 ∷ 33 ∷ 44 ∷ []) s s′ r → ConstantBy w s s′ r
+  unfolding constantLine inOrder
+  constant-map o p v t e x = put-type t (map-row v (word-is v 51 (sym e ∙ o)) ∙ ap constantLine x) (omega arith) p
+
+  pub constant-letter : {n : ℕ} → LetterBy w n → (w ≡ 51 → ⊥) → Puts (n ∷ 44 ∷ []) s s′ r → ConstantBy w s s′ r
+  constant-letter f m p v t e x = put-type t (f v t e x m) (omega arith) p
+
+-- only `var` is a variable
+var-word : (v : Word) → ruleNo (row v .rule) ≡ 1 → v ≡ VAR
+unfolding row ruleNo typingNo
+var-word CYRS e = absurd (omega arith)
+var-word B e = absurd (omega arith)
+var-word END e = absurd (omega arith)
+var-word MAT e = absurd (omega arith)
+var-word CRE e = absurd (omega arith)
+var-word MER e = absurd (omega arith)
+var-word WHE e = absurd (omega arith)
+var-word WIT e = absurd (omega arith)
+var-word RET e = absurd (omega arith)
+var-word UNW e = absurd (omega arith)
+var-word SET e = absurd (omega arith)
+var-word REM e = absurd (omega arith)
+var-word DEL e = absurd (omega arith)
+var-word CAL e = absurd (omega arith)
+var-word PRO e = absurd (omega arith)
+var-word SP e = absurd (omega arith)
+var-word SL e = absurd (omega arith)
+var-word SM e = absurd (omega arith)
+var-word RP e = absurd (omega arith)
+var-word RL e = absurd (omega arith)
+var-word LAB e = absurd (omega arith)
+var-word PARTS e = absurd (omega arith)
+var-word PART e = absurd (omega arith)
+var-word NOD e = absurd (omega arith)
+var-word REL e = absurd (omega arith)
+var-word NULL e = absurd (omega arith)
+var-word BOOL e = absurd (omega arith)
+var-word INT e = absurd (omega arith)
+var-word FLT e = absurd (omega arith)
+var-word STR e = absurd (omega arith)
+var-word VAR e = refl
+var-word PAR e = absurd (omega arith)
+var-word UNR e = absurd (omega arith)
+var-word EXI e = absurd (omega arith)
+var-word PROP e = absurd (omega arith)
+var-word IDX e = absurd (omega arith)
+var-word SLI e = absurd (omega arith)
+var-word LIS e = absurd (omega arith)
+var-word MAP e = absurd (omega arith)
+var-word KEY e = absurd (omega arith)
+var-word CALL e = absurd (omega arith)
+var-word BIN e = absurd (omega arith)
+var-word UNA e = absurd (omega arith)
+var-word CASE e = absurd (omega arith)
+var-word ISN e = absurd (omega arith)
+var-word IN e = absurd (omega arith)
+var-word PAT e = absurd (omega arith)
+var-word LCP e = absurd (omega arith)
+var-word PCP e = absurd (omega arith)
+var-word LPR e = absurd (omega arith)
+var-word MPR e = absurd (omega arith)
+var-word COP e = absurd (omega arith)
+var-word COM e = absurd (omega arith)
+var-word SHO e = absurd (omega arith)
+var-word ALI e = absurd (omega arith)
+
+-- ## What is kept, by its form
+
+one-is : (k : Kept) → One k → k ≡ kept (firstOf k)
+one-is empty w = absurd w
+one-is over w = absurd w
+one-is (kept u) w = refl
+one-is (both u v) w = absurd w
+one-is (items e) w = absurd w
+one-is (last e) w = absurd w
+one-is (entries fs) w = absurd w
+one-is (arms ms) w = absurd w
+
+two-is : (k : Kept) → Two k → k ≡ both (firstOf k) (secondOf k)
+two-is empty w = absurd w
+two-is over w = absurd w
+two-is (kept u) w = absurd w
+two-is (both u v) w = refl
+two-is (items e) w = absurd w
+two-is (last e) w = absurd w
+two-is (entries fs) w = absurd w
+two-is (arms ms) w = absurd w
+
+itemOf : Kept → Option Ty
+itemOf empty = none
+itemOf over = none
+itemOf (kept u) = none
+itemOf (both u v) = none
+itemOf (items e) = e
+itemOf (last e) = none
+itemOf (entries fs) = none
+itemOf (arms ms) = none
+
+items-is : (k : Kept) → Items k → k ≡ items (itemOf k)
+unfolding itemOf
+items-is empty w = absurd w
+items-is over w = absurd w
+items-is (kept u) w = absurd w
+items-is (both u v) w = absurd w
+items-is (items e) w = refl
+items-is (last e) w = absurd w
+items-is (entries fs) w = absurd w
+items-is (arms ms) w = absurd w
+
+mapOf : Kept → Fields
+mapOf empty = ∅ᶠ
+mapOf over = ∅ᶠ
+mapOf (kept u) = ∅ᶠ
+mapOf (both u v) = ∅ᶠ
+mapOf (items e) = ∅ᶠ
+mapOf (last e) = ∅ᶠ
+mapOf (entries fs) = fs
+mapOf (arms ms) = ∅ᶠ
+
+entries-is : (k : Kept) → Entries k → k ≡ entries (mapOf k)
+unfolding mapOf
+entries-is empty w = absurd w
+entries-is over w = absurd w
+entries-is (kept u) w = absurd w
+entries-is (both u v) w = absurd w
+entries-is (items e) w = absurd w
+entries-is (last e) w = absurd w
+entries-is (entries fs) w = refl
+entries-is (arms ms) w = absurd w
+
+argOf : Kept → Option Ty
+argOf empty = none
+argOf over = none
+argOf (kept u) = some u
+argOf (both u v) = none
+argOf (items e) = none
+argOf (last e) = none
+argOf (entries fs) = none
+argOf (arms ms) = none
+
+arg-is : (k : Kept) → AtMostOne k → k ≡ argKept (argOf k)
+unfolding argOf
+arg-is empty w = refl
+arg-is over w = absurd w
+arg-is (kept u) w = refl
+arg-is (both u v) w = absurd w
+arg-is (items e) w = absurd w
+arg-is (last e) w = absurd w
+arg-is (entries fs) w = absurd w
+arg-is (arms ms) w = absurd w
+
+-- the last child's type
+record IsLast (k : Kept) : Type 0 where
+  ty : Ty
+  is : k ≡ last (some ty)
+
+last-is : (k : Kept) → LastOne k → IsLast k
+last-is (last (some t)) w = record { ty = t; is = refl }
+last-is (last none) w = absurd w
+last-is empty w = absurd w
+last-is over w = absurd w
+last-is (kept u) w = absurd w
+last-is (both u v) w = absurd w
+last-is (items e) w = absurd w
+last-is (entries fs) w = absurd w
+last-is (arms ms) w = absurd w
+
+at-kept : {q : Typing} {k : Kept} {hd : Head} {sheet : Bytes} {h : Seen} {s : Bytes} {st : St} → EndAt q k hd sheet h s st → KeptAt k s st
+at-kept d = record { state = d .state; fine = d .fine; wide = omega (arith, d .wide) }
+
+module _ {q : Typing} {k : Kept} {hd : Head} {sheet : Bytes} {h : Seen} {s : Bytes} {st : St} (d : EndAt q k hd sheet h s st) where
+  at-one : One k → KeptAt (kept (firstOf k)) s st
+  at-one w = rw (one-is k w) at (at-kept d)
+
+  at-two : Two k → TwoAt (firstOf k) (secondOf k) s st
+  at-two w =
+      let e = two-is k w in
+      let r = rw e at (d .room) in
+      record { at = rw e at (at-kept d); room = r .0; small = r .1 }
+
+-- ## The number of a line's rule
+
+abbrev pub RuleNo : ℕ → Seen → Type 0
+RuleNo i h = (v : Word) → h .word ≡ wordNo v → i ≡ ruleNo (row v .rule)
+
+rule-of : {q : Typing} {k : Kept} {hd : Head} {sheet : Bytes} {h : Seen} {s : Bytes} {st : St} {i : ℕ} → RuleNo i h → EndAt q k hd sheet h s st → i ≡ typingNo q
+unfolding ruleNo
+rule-of {hd = hd} f d = f (hd .word) (d .head .word) ∙ ap ruleNo (d .ruled)
+
+typing-small : (q : Typing) → typingNo q < 12
+unfolding typingNo
+typing-small (constant t) = omega arith
+typing-small varType = omega arith
+typing-small element = omega arith
+typing-small slicing = omega arith
+typing-small listing = omega arith
+typing-small mapping = omega arith
+typing-small calling = omega arith
+typing-small operator = omega arith
+typing-small unary = omega arith
+typing-small casing = omega arith
+typing-small membership = omega arith
+typing-small comprehension = omega arith
+
+module _ {i : ℕ} {sheet : Bytes} {h : Seen} {s : Bytes} {st : St} (nr : RuleNo i h) where
+  low-rule : {q : Typing} {k : Kept} {hd : Head} → Missed 6 6 i → EndAt q k hd sheet h s st → typingNo q < 6
+  low-rule {q} m d = go (typingNo q) (typing-small q) (rule-of nr d)
+    where
+      go : (n : ℕ) → n < 12 → i ≡ n → n < 6
+      go n l e = under n l (rw e at m)
+        where
+          under : (n : ℕ) → n < 12 → Missed 6 6 n → n < 6
+          under (suc (suc (suc (suc (suc (suc n)))))) l u = absurd (omega (arith, missed-out 6 6 (suc (suc (suc (suc (suc (suc n)))))) u (omega arith)))
+          under zero l u = omega arith
+          under (suc zero) l u = omega arith
+          under (suc (suc zero)) l u = omega arith
+          under (suc (suc (suc zero))) l u = omega arith
+          under (suc (suc (suc (suc zero)))) l u = omega arith
+          under (suc (suc (suc (suc (suc zero))))) l u = omega arith
+
+module _ {i : ℕ} {sheet : Bytes} {b : Binds} {h : Seen} {s : Bytes} {st : St} {y : Tally} (nr : RuleNo i h) where
+  -- ## What the calls ask for
+
+  end-at : (n : ℕ) → 0 < n → i ≡ n → (d : SomeEnd sheet b h s st y) → EndAt (typingOf n) (d .kept) (d .head) sheet h s st
+  end-at n p e d = rw (typing-at (d .typing) i n (rule-of nr (d .at)) e p) at (d .at)
+
+  pub call-in : i ≡ 6 → SomeEnd sheet b h s st y → SomeArg s st × Countable y
+  call-in e d = let z = end-at 6 (omega arith) e d in (record { arg = argOf (d .kept); at = rw (arg-is (d .kept) (z .whole)) at (at-kept z) }, d .count)
+
+  pub operator-in : i ≡ 7 → SomeEnd sheet b h s st y → SomeTwo s st × Countable y
+  operator-in e d = let z = end-at 7 (omega arith) e d in (record { left = firstOf (d .kept); right = secondOf (d .kept); at = at-two z (z .whole) }, d .count)
+
+  pub unary-in : i ≡ 8 → SomeEnd sheet b h s st y → SomeOne s st × Countable y
+  unary-in e d = let z = end-at 8 (omega arith) e d in (record { ty = firstOf (d .kept); at = at-one z (z .whole) }, d .count)
+
+  pub case-in : i ≡ 9 → SomeEnd sheet b h s st y → SomeArms s st
+  case-in e d = let z = end-at 9 (omega arith) e d in record { is = d .kept; form = z .whole; at = at-kept z; room = z .wide }
+
+  pub member-in : i ≡ 10 → SomeEnd sheet b h s st y → SomeTwo s st × Countable y
+  member-in e d = let z = end-at 10 (omega arith) e d in (record { left = firstOf (d .kept); right = secondOf (d .kept); at = at-two z (z .whole) }, d .count)
+
+  pub last-in : i ≡ 11 → SomeEnd sheet b h s st y → SomeLast s st
+  last-in e d =
+      let z = end-at 11 (omega arith) e d in
+      let l = last-is (d .kept) (z .whole) in
+      record { ty = l .ty; at = rw (l .is) at (at-kept z) }
+
+  pub quiet-in : Missed 6 6 i → SomeEnd sheet b h s st y → SomeQuiet i sheet b h s st
+  quiet-in m d =
+      let e = rule-of nr (d .at) in
+      record { low = omega (arith, e, low-rule nr m (d .at)); typing = d .typing; kept = d .kept; head = d .head; env = d .env; rule-no = e; at = d .at; bound = d .bound }
+
+-- ## What they ensure
+
+module _ {i : ℕ} {sheet : Bytes} {b : Binds} {h : Seen} {s s′ : Bytes} {st : St} {out out′ : Bytes} {y : Tally} {r : Ended} (nr : RuleNo i h) where
+  ends-by : (n : ℕ) → 0 < n → i ≡ n → ((k : Kept) (hd : Head) (env : Env) → EndAt (typingOf n) k hd sheet h s st → Ends (end (typingOf n) env hd k) s s′ out out′ y r)
+      → EndedBy sheet b h s s′ st out out′ y r
+  ends-by n p e f q k hd env d w = let z = typing-at q i n (rule-of nr d) e p in rw z (f k hd env (rw z at d))
+
+  pub end-call : {x : Bytes} {j : ℕ} → i ≡ 6 → SpeltAs (h .name) (h .stop) j → x ≡ slice j (h .stop) sheet
+      → ((a : Option Ty) → KeptAt (argKept a) s st → Ends (told (callType (lookup (map digitOf x)) (argsOf (argKept a))) (callFaults (lookup (map digitOf x)) (argsOf (argKept a)))) s s′ out out′ y r)
+      → EndedBy sheet b h s s′ st out out′ y r
+  unfolding end
+  end-call {x} e p z f = ends-by 6 (omega arith) e go
+    where
+      go : (k : Kept) (hd : Head) (env : Env) → EndAt calling k hd sheet h s st → Ends (end calling env hd k) s s′ out out′ y r
+      go k hd env d =
+          let n : map digitOf x ≡ hd .name = ap (map digitOf) (z ∙ p .same sheet) ∙ values-unhex _ _ (d .head .name) in
+          let a = arg-is k (d .whole) in
+          let u : argsOf (argKept (argOf k)) ≡ argsOf k = sym (ap argsOf a) in
+          rw (n, u) at (f (argOf k) (rw a at (at-kept d)))
+
+  pub end-operator : i ≡ 7 → ((a b : Ty) → TwoAt a b s st → Ends (endOp (op (h .num)) a b) s s′ out out′ y r) → EndedBy sheet b h s s′ st out out′ y r
+  unfolding end
+  end-operator e f = ends-by 7 (omega arith) e go
+    where
+      go : (k : Kept) (hd : Head) (env : Env) → EndAt operator k hd sheet h s st → Ends (end operator env hd k) s s′ out out′ y r
+      go k hd env d = subst (λ (m : ℕ). Ends (endOp (op m) (firstOf k) (secondOf k)) s s′ out out′ y r) (d .head .num) (f (firstOf k) (secondOf k) (at-two d (d .whole)))
+
+  pub end-unary : i ≡ 8 → ((t : Ty) → KeptAt (kept t) s st → Ends (told (unaryType (h .num) t) (unaryFaults (h .num) t)) s s′ out out′ y r) → EndedBy sheet b h s s′ st out out′ y r
+  unfolding end
+  end-unary e f = ends-by 8 (omega arith) e go
+    where
+      go : (k : Kept) (hd : Head) (env : Env) → EndAt unary k hd sheet h s st → Ends (end unary env hd k) s s′ out out′ y r
+      go k hd env d = subst (λ (m : ℕ). Ends (told (unaryType m (firstOf k)) (unaryFaults m (firstOf k))) s s′ out out′ y r) (d .head .num) (f (firstOf k) (at-one d (d .whole)))
+
+  pub end-case : i ≡ 9 → ((k : Kept) → ArmForm k → KeptAt k s st → Ends (endCase k) s s′ out out′ y r) → EndedBy sheet b h s s′ st out out′ y r
+  unfolding end
+  end-case e f = ends-by 9 (omega arith) e (λ k hd env d. f k (d .whole) (at-kept d))
+
+  pub end-in : i ≡ 10 → ((a b : Ty) → TwoAt a b s st → Ends (endIn a b) s s′ out out′ y r) → EndedBy sheet b h s s′ st out out′ y r
+  unfolding end
+  end-in e f = ends-by 10 (omega arith) e (λ k hd env d. f (firstOf k) (secondOf k) (at-two d (d .whole)))
+
+  pub end-last : i ≡ 11 → ((t : Ty) → KeptAt (last (some t)) s st → Ends (endLast (last (some t))) s s′ out out′ y r) → EndedBy sheet b h s s′ st out out′ y r
+  unfolding end
+  end-last e f = ends-by 11 (omega arith) e go
+    where
+      go : (k : Kept) (hd : Head) (env : Env) → EndAt comprehension k hd sheet h s st → Ends (end comprehension env hd k) s s′ out out′ y r
+      go k hd env d = let l = last-is k (d .whole) in subst (λ (j : Kept). Ends (endLast j) s s′ out out′ y r) (sym (l .is)) (f (l .ty) (rw (l .is) at (at-kept d)))
+
+-- ## Rules that add no fault
+
+record Telling (x : Told) : Type 0 where
+  ty : Ty
+  is : x ≡ told ty []
+
+tells : (t : Ty) → Telling (told t [])
+tells t = record { ty = t; is = refl }
+
+list-tells : (k : Kept) → Telling (endList k)
+unfolding endList
+list-tells (items none) = tells (tList (base tAny))
+list-tells (items (some t)) = tells (tList t)
+list-tells empty = tells (tList (base tAny))
+list-tells over = tells (tList (base tAny))
+list-tells (kept u) = tells (tList (base tAny))
+list-tells (both u v) = tells (tList (base tAny))
+list-tells (last e) = tells (tList (base tAny))
+list-tells (entries fs) = tells (tList (base tAny))
+list-tells (arms ms) = tells (tList (base tAny))
+
+map-tells : (k : Kept) → Telling (endMap k)
+unfolding endMap
+map-tells empty = tells (tMap ∅ᶠ)
+map-tells over = tells (tMap ∅ᶠ)
+map-tells (kept u) = tells (tMap ∅ᶠ)
+map-tells (both u v) = tells (tMap ∅ᶠ)
+map-tells (items e) = tells (tMap ∅ᶠ)
+map-tells (last e) = tells (tMap ∅ᶠ)
+map-tells (entries fs) = tells (tMap fs)
+map-tells (arms ms) = tells (tMap ∅ᶠ)
+
+quiet-tells : (q : Typing) (env : Env) (hd : Head) (k : Kept) → typingNo q < 6 → Telling (end q env hd k)
+unfolding end typingNo
+quiet-tells (constant t) env hd k l = tells t
+quiet-tells varType env hd k l = tells (varTypeOf (hd .var) env)
+quiet-tells element env hd k l = tells (elementOf (firstOf k))
+quiet-tells slicing env hd k l = tells (listOr (base tAny) (firstOf k))
+quiet-tells listing env hd k l = list-tells k
+quiet-tells mapping env hd k l = map-tells k
+quiet-tells calling env hd k l = absurd (omega arith)
+quiet-tells operator env hd k l = absurd (omega arith)
+quiet-tells unary env hd k l = absurd (omega arith)
+quiet-tells casing env hd k l = absurd (omega arith)
+quiet-tells membership env hd k l = absurd (omega arith)
+quiet-tells comprehension env hd k l = absurd (omega arith)
+
+pub end-quiet : {i : ℕ} {sheet : Bytes} {b : Binds} {h : Seen} {s s′ : Bytes} {st : St} {out : Bytes} {y : Tally} {r : ℕ} → RuleNo i h → Missed 6 6 i → QuietBy i sheet b h s s′ st r
+    → EndedBy sheet b h s s′ st out out y (Typed r y)
+end-quiet nr m f q k hd env d w =
+    let t = quiet-tells q env hd k (low-rule nr m d) in
+    let z = f q k hd env (rule-of nr d) d w (t .ty) (t .is) in
+    rw (t .is) (record { answer = (z .at, adds-none); long = z .long; as-long = refl })
+
+-- ## Their types
+
+told-same : {t u : Ty} → told t [] ≡ told u [] → t ≡ u
+told-same e = cc
+
+module _ {i : ℕ} {sheet : Bytes} {b : Binds} {h : Seen} {s s′ : Bytes} {st : St} {r : ℕ} where
+  quiet-by : (n : ℕ) → 0 < n → i ≡ n → ((k : Kept) (hd : Head) (env : Env) → EndAt (typingOf n) k hd sheet h s st → EnvAs sheet b env → (t : Ty) → end (typingOf n) env hd k ≡ told t [] → Returned s s′ t r)
+      → QuietBy i sheet b h s s′ st r
+  quiet-by n p e f q k hd env g d w t x = let z = typing-at q i n g e p in f k hd env (rw z at d) w t (rw z at x)
+
+  pub quiet-constant : i ≡ 0 → ConstantBy (h .word) s s′ r → QuietBy i sheet b h s s′ st r
+  unfolding end typingNo
+  quiet-constant e f q k hd env g d w t x = go q g d x
+    where
+      go : (q : Typing) → i ≡ typingNo q → EndAt q k hd sheet h s st → end q env hd k ≡ told t [] → Returned s s′ t r
+      go (constant c) g d x = f (hd .word) t (d .head .word) (d .ruled ∙ ap (λ (u : Ty). typed (constant u)) (told-same x))
+      go varType g d x = absurd (omega arith)
+      go element g d x = absurd (omega arith)
+      go slicing g d x = absurd (omega arith)
+      go listing g d x = absurd (omega arith)
+      go mapping g d x = absurd (omega arith)
+      go calling g d x = absurd (omega arith)
+      go operator g d x = absurd (omega arith)
+      go unary g d x = absurd (omega arith)
+      go casing g d x = absurd (omega arith)
+      go membership g d x = absurd (omega arith)
+      go comprehension g d x = absurd (omega arith)
+
+  pub quiet-variable : {m : ℕ} → i ≡ 1 → ((b′ : BindsAt sheet (b .from) (b .to)) → m ≡ bindKind (h .var .0) (b′ .heads)) → TypeAt s′ 0 r (kindType m) × (length s′ ≡ length s) → QuietBy i sheet b h s s′ st r
+  unfolding end varTypeOf typingNo ruleNo
+  quiet-variable {m} e f a = quiet-by 1 (omega arith) e go
+    where
+      go : (k : Kept) (hd : Head) (env : Env) → EndAt varType k hd sheet h s st → EnvAs sheet b env → (t : Ty) → end varType env hd k ≡ told t [] → Returned s s′ t r
+      go k hd env d w t x =
+          let v = d .variable (var-word (hd .word) (ap ruleNo (d .ruled))) in
+          let n : m ≡ bindKind (variableOf hd) (w .binds .heads) = f (w .binds) ∙ ap (λ (i : ℕ). bindKind i (w .binds .heads)) (d .head .var) in
+          let u : kindType m ≡ t = ap kindType n ∙ (sym (w .same (variableOf hd)) ∙ (sym (ap (λ (o : Option ℕ). varTypeOf o env) v) ∙ told-same x)) in
+          record { at = subst (λ (z : Ty). TypeAt s′ 0 r z) u (a .0); long = a .1 }
+
+  pub quiet-element : i ≡ 2 → (length s′ ≡ length s) × ((t : Ty) → KeptAt (kept t) s st → TypeAt s′ 0 r (elementOf t)) → QuietBy i sheet b h s s′ st r
+  unfolding end
+  quiet-element e a = quiet-by 2 (omega arith) e (λ k hd env d w t x. record { at = subst (λ (z : Ty). TypeAt s′ 0 r z) (told-same x) (a .1 (firstOf k) (at-one d (d .whole))); long = a .0 })
+
+  pub quiet-slice : i ≡ 3 → (length s′ ≡ length s) × ((t : Ty) → KeptAt (kept t) s st → TypeAt s′ 0 r (listOr (base tAny) t)) → QuietBy i sheet b h s s′ st r
+  unfolding end
+  quiet-slice e a = quiet-by 3 (omega arith) e (λ k hd env d w t x. record { at = subst (λ (z : Ty). TypeAt s′ 0 r z) (told-same x) (a .1 (firstOf k) (at-one d (d .whole))); long = a .0 })
+
+  pub quiet-list : i ≡ 4 → (length s′ ≡ length s) × ((o : Option Ty) → KeptAt (items o) s st → (t : Ty) → endList (items o) ≡ told t [] → TypeAt s′ 0 r t) → QuietBy i sheet b h s s′ st r
+  unfolding end
+  quiet-list e a = quiet-by 4 (omega arith) e go
+    where
+      go : (k : Kept) (hd : Head) (env : Env) → EndAt listing k hd sheet h s st → EnvAs sheet b env → (t : Ty) → end listing env hd k ≡ told t [] → Returned s s′ t r
+      go k hd env d w t x = let o = items-is k (d .whole) in record { at = a .1 (itemOf k) (rw o at (at-kept d)) t (rw o at x); long = a .0 }
+
+map-at : {s : Bytes} {st : St} (fs : Fields) → KeptAt (entries fs) s st → TypeAt s 0 (st .len) (tMap fs)
+unfolding textOf place
+map-at {s} {st} fs k =
+    let e = k .state .len in
+    let f = k .state .front in
+    record { ordered = omega arith; inside = omega (arith, e, ap length f, length-take (length (line (tMap fs))) s); is = ap (λ (m : ℕ). take m s) e ∙ f }
+
+pub quiet-map : {i : ℕ} {sheet : Bytes} {b : Binds} {h : Seen} {s : Bytes} {st : St} → i < 6 → Missed 0 5 i → QuietBy i sheet b h s s st (st .len)
+unfolding end endMap
+quiet-map {i} {sheet} {b} {h} {s} {st} l m = quiet-by 5 (omega arith) (omega (arith, missed-out 0 5 i m (omega arith))) go
+  where
+    go : (k : Kept) (hd : Head) (env : Env) → EndAt mapping k hd sheet h s st → EnvAs sheet b env → (t : Ty) → end mapping env hd k ≡ told t [] → Returned s s t (st .len)
+    go k hd env d w t x =
+        let e = entries-is k (d .whole) in
+        record { at = subst (λ (z : Ty). TypeAt s 0 (st .len) z) (told-same (rw e at x)) (map-at (mapOf k) (rw e at (at-kept d))); long = refl }
+
+-- ## What they ask for
+
+module _ {i : ℕ} {sheet : Bytes} {b : Binds} {h : Seen} {s : Bytes} {st : St} (d : SomeQuiet i sheet b h s st) where
+  quiet-at : (n : ℕ) → 0 < n → i ≡ n → EndAt (typingOf n) (d .kept) (d .head) sheet h s st
+  quiet-at n p e = rw (typing-at (d .typing) i n (d .rule-no) e p) at (d .at)
+
+  pub element-in : i ≡ 2 → SomeOne s st
+  element-in e = let z = quiet-at 2 (omega arith) e in record { ty = firstOf (d .kept); at = at-one z (z .whole) }
+
+  pub slice-in : i ≡ 3 → SomeOne s st
+  slice-in e = let z = quiet-at 3 (omega arith) e in record { ty = firstOf (d .kept); at = at-one z (z .whole) }
+
+  pub list-in : i ≡ 4 → SomeItems s st
+  list-in e = let z = quiet-at 4 (omega arith) e in record { element = itemOf (d .kept); at = rw (items-is (d .kept) (z .whole)) at (at-kept z) }
+
+-- ## A line that names a variable has one
+
+abbrev HasVar : Read → Type 0
+HasVar (bad c) = Unit {0}
+HasVar (ok h) = h .var ≡ some (variableOf h)
+
+filled-var : (n : ℕ) (b : Bool) (ys : List Bytes) → HasVar (into (bare VAR) (elim b [ true ↦ variableV (some n) | false ↦ wrong 4 ]) (λ k. fill k [] ys))
+unfolding fill
+filled-var n true [] = refl
+filled-var n true (y ∷ ys) = tt
+filled-var n false ys = tt
+
+fill-var : (fs : List Bytes) → HasVar (fill (bare VAR) (variable ∷ []) fs)
+unfolding fill value within
+fill-var [] = tt
+fill-var (x ∷ ys) = go (decimal x)
+  where
+    go : (o : Option ℕ) → HasVar (into (bare VAR) (within 0 variableLimit o (λ v. variableV (some v))) (λ k. fill k [] ys))
+    go none = tt
+    go (some n) = filled-var n (leb 0 n && leb n variableLimit) ys
+
+abbrev PlainVar : Plain → Type 0
+PlainVar unknown = Unit {0}
+PlainVar (known v r) = v ≡ VAR → HasVar r
+
+counted-var : (b : Bool) (fs : List Bytes) → HasVar (elim b [ true ↦ fill (bare VAR) (row VAR .fields) fs | false ↦ bad 3 ])
+unfolding row
+counted-var true fs = fill-var fs
+counted-var false fs = tt
+
+says-var : (o : Option Word) (fs : List Bytes) → PlainVar (wordSays o fs)
+unfolding wordSays
+says-var none fs = tt
+says-var (some v) fs = λ e. subst (λ (w : Word). HasVar (elim (eqb (length fs) (length (row w .fields))) [ true ↦ fill (bare w) (row w .fields) fs | false ↦ bad 3 ])) (sym e) (counted-var (eqb (length fs) (length (row VAR .fields))) fs)
+
+pieces-var : (ps : List Bytes) → PlainVar (piecesSay ps)
+unfolding piecesSay
+pieces-var [] = tt
+pieces-var (x ∷ fs) = says-var (wordIn x words) fs
+
+pub variable-read : {s : Bytes} {p : ℕ} {h : Head} {q : ℕ} → LineAt s p h q → h .word ≡ VAR → h .var ≡ some (variableOf h)
+unfolding lineSays
+variable-read l e = subst PlainVar (l .says) (pieces-var (split 44 (l .text))) e

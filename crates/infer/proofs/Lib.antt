@@ -1,0 +1,14 @@
+pub mod RoleLaws
+pub mod StepLaws
+pub mod EndLaws
+pub mod WalkTable
+pub mod WalkTrees
+pub mod WalkKept
+pub mod WalkSmall
+pub mod WalkLoop
+pub mod WalkTurn
+pub mod WalkInfer
+pub mod WalkPattern
+pub mod WalkEnter
+pub mod WalkCycle
+pub mod StatementLaws

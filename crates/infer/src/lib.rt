@@ -1,0 +1,10 @@
+// The types of a sheet's expressions (infer.rs).
+mod rule;
+mod statement;
+mod step;
+mod walk;
+
+pub use statement::Report;
+pub use statement::check_statement;
+pub use step::Env;
+pub use walk::Cur;

@@ -1,0 +1,203 @@
+// The two walks that call each other.
+ghost use mathlib.Core.Path.{_≡_};
+ghost use Prim.Native.Nat.{_+_, _<_, _≤_};
+ghost use lib.ListN.{length};
+ghost use Rattle.infer.specs.Walks.{EntersAs, ToldAs, SpeltAs, ExprAsk, ExprWalked, AnyAsk, AnyWalked};
+use crate::rule::role_of;
+use crate::rule::rule_of;
+use crate::step::Env;
+use crate::step::Stepped;
+use crate::step::finish;
+use crate::step::start;
+use crate::step::step;
+use finish::Ended;
+use kept::St;
+use line::Head;
+use line::HirId;
+use line::class_of;
+use line::read_line;
+use report::Tally;
+
+// The next line's place and number.
+pub struct Cur {
+    pub at: usize,
+    pub line: HirId,
+}
+
+// The length of the type at the front of the work area, the cursor behind the lines walked, and the output's counts; or the line of the
+// innermost expression being typed when a type was too large.
+pub enum Walk {
+    Done { len: usize, cur: Cur, tally: Tally },
+    TooLarge(HirId),
+}
+
+// The cursor behind a line.
+pub fn past(c: Cur, h: Head) -> Cur
+    requires { ⌜ c .line .0 < 4294967295 ⌝ }
+    ensures { λ r. ⌜ (r .at ≡ h .next) × (r .line .0 ≡ c .line .0 + 1) ⌝ }
+{
+    let line = hir::next_line(c.line);
+    Cur { at: h.next, line }
+}
+
+// A line and the cursor at it.
+struct Met {
+    head: Head,
+    cur: Cur,
+}
+
+// An entry's expression stands on the line behind it; any other line stands for itself.
+fn entered(sheet: &[u8], k: Head, c: Cur) -> Met
+    requires { ⌜ (c .line .0 < 4294967295) × (k .next ≤ length (now sheet)) ⌝ }
+    ensures { λ r. ⌜ EntersAs (now (sheet .entry)) k c (r .head) (r .cur) ⌝ }
+{
+    if k.word != 40 {
+        return Met { head: k, cur: c };
+    }
+    let cur = past(c, k);
+    let p = cur.at;
+    Met {
+        head: read_line(sheet, p),
+        cur,
+    }
+}
+
+// Where the name of a line starts.
+fn spelt(k: Head) -> usize
+    ensures { λ r. ⌜ SpeltAs (k .name) (k .stop) r ⌝ }
+{
+    if k.name < k.stop { k.name } else { k.stop }
+}
+
+// What is kept, when the next child's type stands behind it.
+fn held(st: St) -> St
+    ensures { λ r. ⌜ (r .len ≡ st .len) × (r .second ≡ 0) × (r .over ≡ st .over) ⌝ }
+{
+    St {
+        len: st.len,
+        second: 0,
+        over: st.over,
+    }
+}
+
+// The answer of an expression at its end.
+fn told(e: Ended, here: HirId, cur: Cur) -> Walk
+    ensures { λ r. ⌜ ToldAs e here cur r ⌝ }
+{
+    match e {
+        Ended::Typed { len, tally } => Walk::Done { len, cur, tally },
+        Ended::Large => Walk::TooLarge(here),
+    }
+}
+
+// The type of the expression whose line is `h`, with `depth` levels left.
+pub fn infer_expr(
+    b: Env,
+    sheet: &[u8],
+    h: Head,
+    cur: Cur,
+    depth: usize,
+    work: &mut [u8],
+    out: &mut [u8],
+    tally: Tally,
+) -> Walk
+    requires { ⌜ ExprAsk (now sheet) b h cur depth (now work) tally ⌝ }
+    ensures { λ r. ⌜ ExprWalked (now (sheet .entry)) b h cur depth (now (work .entry)) (now (work .exit)) (now (out .entry)) (now (out .exit)) tally r ⌝ }
+{
+    let here = cur.line;
+    let kids = hir::kids_of(h);
+    let n = kids.all;
+    let rule = rule_of(h.word);
+    let mut c = past(cur, h);
+    let mut y = tally;
+    let mut st = start(rule, work);
+    let mut j = 0;
+    while j < n {
+        let p = c.at;
+        let k = read_line(sheet, p);
+        let from = st.len;
+        match check_tree(b, sheet, k, c, depth - 1, &mut work[from..], out, y) {
+            Walk::Done {
+                len,
+                cur: behind,
+                tally: more,
+            } => {
+                let role = role_of(h, j);
+                let a = spelt(k);
+                let z = k.stop;
+                match step(rule, role, held(st), work, len, &sheet[a..z], out, more) {
+                    Stepped::On { st: s, tally: t } => {
+                        st = s;
+                        y = t;
+                        c = behind;
+                    }
+                    Stepped::Large => {
+                        return Walk::TooLarge(here);
+                    }
+                }
+            }
+            Walk::TooLarge(l) => {
+                return Walk::TooLarge(l);
+            }
+        }
+        j += 1;
+    }
+    told(finish(b, sheet, h, st, work, out, y), here, c)
+}
+
+// A tree inside a clause, whose first line is `k`: of an expression, or an entry's, its type. Of any other (a pattern, an item of a map
+// projection) the expressions are typed and dropped.
+fn check_tree(
+    b: Env,
+    sheet: &[u8],
+    k: Head,
+    cur: Cur,
+    depth: usize,
+    work: &mut [u8],
+    out: &mut [u8],
+    tally: Tally,
+) -> Walk
+    requires { ⌜ AnyAsk (now sheet) b k cur depth (now work) tally ⌝ }
+    ensures { λ r. ⌜ AnyWalked (now (sheet .entry)) b k cur depth (now (work .entry)) (now (work .exit)) (now (out .entry)) (now (out .exit)) tally r ⌝ }
+{
+    let m = entered(sheet, k, cur);
+    let e = m.head;
+    if class_of(e.word) == 13 {
+        let at = m.cur;
+        return infer_expr(b, sheet, e, at, depth, work, out, tally);
+    }
+    let mut c = cur;
+    let mut y = tally;
+    let mut todo: usize = 1;
+    while todo > 0 {
+        let p = c.at;
+        let g = read_line(sheet, p);
+        if class_of(g.word) == 13 {
+            match infer_expr(b, sheet, g, c, depth, work, out, y) {
+                Walk::Done {
+                    len: _,
+                    cur: behind,
+                    tally: t,
+                } => {
+                    c = behind;
+                    y = t;
+                    todo -= 1;
+                }
+                Walk::TooLarge(l) => {
+                    return Walk::TooLarge(l);
+                }
+            }
+        } else {
+            let kids = hir::kids_of(g);
+            c = past(c, g);
+            todo = todo - 1 + kids.all;
+        }
+    }
+    work[0] = 80;
+    work[1] = 44;
+    Walk::Done {
+        len: 2,
+        cur: c,
+        tally: y,
+    }
+}
