@@ -471,22 +471,3 @@ pub bind-var : (s : Bytes) (p q : ℕ) (h : Head) → LineAt s p h q → rank (p
 bind-var s p q h a e =
     let f = said-fill (a .text) (h .word) h (a .says) in
     variable-var (bare (h .word)) h (f .0) (rw (bind-fields (h .word) e) at (f .1))
-
--- ## So has a line whose one field is a variable
-
-variable-only : (k h : Head) (xs : List Bytes) → fill k (variable ∷ []) xs ≡ ok h → (v : ℕ) × (h .var ≡ some v)
-unfolding fill
-variable-only k h [] e = absurd (no-ok 3 h e)
-variable-only k h (x ∷ xs) e = go (value variable (k .nums) x) (rw (value-at variable (k .nums) x) (says variable _ x)) xs e
-  where
-    go : (v : Value) → Says variable x v → (xs : List Bytes) → into k v (λ i. fill i [] xs) ≡ ok h → (u : ℕ) × (h .var ≡ some u)
-    go (wrong c) (faulty p) xs d = absurd (no-ok c h d)
-    go (variableV (some u)) (a-variable p) [] d = let q : record { word = k .word; var = some u; nums = k .nums; name = k .name } ≡ h = cc in (u, ap (λ (y : Head). y .var) (sym q))
-    go (variableV (some u)) (a-variable p) (y ∷ ys) d = absurd (no-ok 3 h d)
-
-pub only-var : (s : Bytes) (p q : ℕ) (h : Head) → LineAt s p h q → row (h .word) .fields ≡ variable ∷ [] → h .var ≡ some (variableOf h)
-only-var s p q h a e =
-    let f = said-fill (a .text) (h .word) h (a .says) in
-    let r = variable-only (bare (h .word)) h (f .0) (rw e at (f .1)) in
-    let v : variableOf h ≡ r .0 = ap (λ (o : Option ℕ). elim o [ none ↦ 0 | some u ↦ u ]) (r .1) in
-    r .1 ∙ ap some (sym v)

@@ -20,11 +20,11 @@ use Rattle.kept.specs.State.{StAs, FineKept}
 use Rattle.kept.specs.declared.St.{St}
 use Rattle.finish.specs.End.{Countable}
 use Rattle.finish.specs.declared.Ended.{Ended}
-use Rattle.infer.specs.Steps.{typingNo, ruleNo, roleNo, SomeStep, SteppedBy, EnvAs, SomeEnd, EndedBy}
+use Rattle.infer.specs.Steps.{typingNo, ruleNo, roleNo, SomeStep, SteppedBy, EnvAs, SomeEnd, EndedBy, SpeltAs}
 use Rattle.infer.specs.declared.step.Env.{Env as Binds}
 use Rattle.infer.specs.declared.step.Stepped.{Stepped}
 use Rattle.infer.specs.declared.step.Stepped.the-variants.{On, Large}
-use Rattle.infer.specs.Walks.{TreeAt, ExprAsk, ExprWalked, AnyAsk, AnyWalked, EntersAs, SpeltAs, ToldAs}
+use Rattle.infer.specs.Walks.{TreeAt, ExprAsk, ExprWalked, AnyAsk, AnyWalked, EntersAs, ToldAs}
 use Rattle.infer.specs.declared.walk.Cur.{Cur}
 use Rattle.infer.specs.declared.walk.Walk.{Walk}
 use Rattle.infer.specs.declared.walk.Walk.the-variants.{Done, TooLarge}

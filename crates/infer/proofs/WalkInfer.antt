@@ -29,11 +29,11 @@ use Rattle.report.specs.declared.Tally.{Tally}
 use Rattle.walk_run.specs.Run.{Kept, empty, over, kept, both, items, last, entries, arms, start, child, end, Told, told, tooMuch, stopped, passed, after, kids, Ran, halted, typed, concluded, judged}
 use Rattle.kept.specs.State.{behind as behindOf, StAs, Fine, FineKept}
 use Rattle.kept.specs.declared.St.{St}
-use Rattle.infer.specs.Steps.{typingNo, roleNo, Before, StepAt, SomeStep, SteppedAs, Steps, SteppedBy, EnvAs, EndAt, SomeEnd, EndedBy}
+use Rattle.infer.specs.Steps.{typingNo, roleNo, Before, StepAt, SomeStep, SteppedAs, Steps, SteppedBy, EnvAs, EndAt, SomeEnd, EndedBy, SpeltAs}
 use Rattle.infer.specs.declared.step.Stepped.{Stepped}
 use Rattle.infer.specs.declared.step.Stepped.the-variants.{On, Large}
 use Rattle.infer.specs.declared.step.Env.{Env as Binds}
-use Rattle.infer.specs.Walks.{resultOf, Counting, Behind, WalkedAs, Walked, SpeltAs, ToldAs, AnyAsk, AnyWalked}
+use Rattle.infer.specs.Walks.{resultOf, Counting, Behind, WalkedAs, Walked, ToldAs, AnyAsk, AnyWalked}
 use Rattle.infer.specs.declared.walk.Cur.{Cur}
 use Rattle.infer.specs.declared.walk.Walk.{Walk}
 use Rattle.infer.specs.declared.walk.Walk.the-variants.{Done, TooLarge}

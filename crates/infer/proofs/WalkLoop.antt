@@ -6,13 +6,13 @@ use Prim.Native.Nat.{ℕ, suc, _+_, _-_, _*_, _≤_, _<_}
 use native.Mathlib.Omega.{arith}
 use lib.ListN.{length, take, drop}
 use Rattle.semantics.specs.Bytes.{Bytes}
-use Rattle.semantics.specs.Sheet.{Head, AtExpression, Role, plain, inner, Rule, rule, roles, arity, rank, place, at, wanted, deeper, Word, VAR, variableOf, Field, row}
+use Rattle.semantics.specs.Sheet.{Head, AtExpression, Role, plain, inner, Rule, rule, roles, arity, rank, place, at, wanted, deeper, VAR, variableOf}
 use Rattle.semantics.specs.Walk.{Env, Res, Fault, walk}
 use Rattle.semantics.proofs.All.{All, all-take}
 use Rattle.line.specs.Line.{HeadIs}
 use Rattle.line.specs.declared.line.Head.{Head as Seen}
 use Rattle.hir.specs.Lines.{Lines, Met}
-use Rattle.hir.proofs.LinesLaws.{Inner, AllIn, inner-under, only-var}
+use Rattle.hir.proofs.LinesLaws.{Inner, AllIn, inner-under}
 use Rattle.report.specs.Report.{faultsText, Adds}
 use Rattle.report.specs.declared.Tally.{Tally}
 use Rattle.walk_run.specs.Run.{Kept, start, child, end, Kids, stopped, passed, after, kids, halted, typed, concluded, closed, runStep, judged}
@@ -28,6 +28,7 @@ use Rattle.infer.proofs.WalkTable.{typingOf, typed-at}
 use Rattle.infer.proofs.WalkTrees.{met-fits, met-rank, met-under, kids-many}
 use Rattle.infer.proofs.WalkKept.{Form, form-start, LowKept, low-start}
 use Rattle.infer.proofs.WalkSmall.{adds-none, after-none}
+use Rattle.infer.proofs.EndLaws.{variable-read}
 
 -- ## An expression's line, and what hangs under it
 
@@ -40,10 +41,6 @@ pub record Base (s : Bytes) (h : Seen) (here depth : ℕ) (hd : Head) (hs ks : L
   pub deep : depth ≤ 24
   pub variable : hd .word ≡ VAR → hd .var ≡ some (variableOf hd)
 
-var-fields : row VAR .fields ≡ Field.variable ∷ []
-unfolding row
-var-fields = refl
-
 pub expr-base : {s : Bytes} {h : Seen} {c : Cur} {depth : ℕ} (a : ExprAt s h c depth) → Base s h (c .line .0) depth (a .tree .head) (a .tree .under) (a .tree .rest)
 expr-base {s} a =
     record {
@@ -53,7 +50,7 @@ expr-base {s} a =
       above = omega (arith, a .tree .above, a .tree .line .on, a .next);
       room = a .tree .room;
       deep = a .deep;
-      variable = λ e. only-var s _ _ _ (a .tree .line) (ap (λ (v : Word). row v .fields) e ∙ var-fields);
+      variable = variable-read (a .tree .line);
     }
 
 pub expr-in : (e : ℕ) → Inner (at AtExpression e)

@@ -1,6 +1,6 @@
 -- Small facts of the walks: faults added one after the other, a type behind what is kept, room for a unification, the name of an entry,
 -- and a line's numbers. Assumes nothing.
-use mathlib.Core.Path.{_≡_, refl, sym, _∙_, ap, subst}
+use mathlib.Core.Path.{_≡_, refl, sym, _∙_, ap}
 use mathlib.Core.List.{List, [], _∷_, _++_, append-assoc, map}
 use mathlib.Core.Option.{none, some}
 use Prim.Native.Nat.{ℕ, suc, zero, _+_, _-_, _*_, _/_, _≤_, _<_}
@@ -8,14 +8,11 @@ use native.Mathlib.Omega.{arith}
 use native.Mathlib.Nat.{add-zero}
 use lib.ListN.{length, getD, take, drop, set, length-append, length-map, length-replicate, replicate}
 use lib.Seq.{slice, take-nil, sets, length-sets, length-take-le, drop-at, take-append-add}
-use Rattle.semantics.specs.Bytes.{Bytes, hex, unhex}
+use Rattle.semantics.specs.Bytes.{Bytes, hex}
 use Rattle.semantics.specs.Ty.{Ty, base, tUnknown, tList, line, lineTo, letter, regular}
 use Rattle.semantics.specs.Sheet.{Head, Typing, constant, varType, element, slice as slicing, listing, mapping, calling, operator, unary, casing, membership, comprehension, typed, row, rule, roles, arity, at, wanted}
 use Rattle.semantics.specs.Walk.{Fault}
 use Rattle.semantics.specs.Calls.{faultLine}
-use Rattle.semantics.proofs.Named.{Digits, Maybe}
-use Rattle.semantics.proofs.Reader.{unhex-sound}
-use Rattle.semantics.proofs.Split.{nameF}
 use Rattle.semantics.proofs.Regular.{regular-sound}
 use Rattle.unify_run.proofs.Size.{element-inside, small-sound, small-true}
 use Rattle.unify.specs.Work.{slots}
@@ -35,9 +32,9 @@ use Rattle.walk_run.specs.Run.{Kept, empty, over, kept, both, items, last, entr
 use Rattle.walk_run.proofs.Levels.{Low}
 use Rattle.kept.specs.State.{Fine, FineKept}
 use Rattle.bounds.proofs.Rooms.{low-fit}
-use Rattle.infer.specs.Steps.{typingNo, ruleNo, RoomIn, ChildRoom, RoomOf}
-use Rattle.infer.specs.Walks.{SpeltAs}
+use Rattle.infer.specs.Steps.{typingNo, ruleNo, RoomIn, ChildRoom, RoomOf, SpeltAs}
 use Rattle.infer.proofs.WalkKept.{LowKept, weak}
+use Rattle.infer.proofs.EndLaws.{name-spelt}
 
 -- ## Faults
 
@@ -152,9 +149,6 @@ end-room d (arms ms) s e p f l q r = tt
 
 -- ## Names
 
-unhex-name : (s n : Bytes) → unhex s ≡ some n → s ≡ map hex n
-unhex-name s n e = sym (subst (Maybe (λ m. (nameF m ≡ s) × Digits m)) e (unhex-sound s) .0)
-
 -- a part of a slice, as the code takes it
 part-slice : (a z : ℕ) (s : Bytes) → a ≤ z → take (z - a) (drop a s) ≡ slice a z s
 part-slice zero z s l = let e : z - 0 ≡ z = omega arith in ap (λ (n : ℕ). take n s) e
@@ -163,7 +157,7 @@ part-slice (suc a) (suc z) [] l = take-nil (suc z - suc a)
 part-slice (suc a) (suc z) (x ∷ s) l = let e : suc z - suc a ≡ z - a = omega arith in ap (λ (n : ℕ). take n (drop a s)) e ∙ part-slice a z s (omega arith)
 
 pub spelt-name : (s : Bytes) (k : Seen) (h : Head) (a : ℕ) → HeadIs s k h → SpeltAs (k .name) (k .stop) a → take (k .stop - a) (drop a s) ≡ map hex (h .name)
-spelt-name s k h a i x = part-slice a (k .stop) s (x .below) ∙ x .same s ∙ unhex-name (slice (k .name) (k .stop) s) (h .name) (i .name)
+spelt-name s k h a i x = part-slice a (k .stop) s (x .below) ∙ x .same s ∙ name-spelt (slice (k .name) (k .stop) s) (h .name) (i .name)
 
 -- ## A line's numbers
 

@@ -3,11 +3,9 @@ use mathlib.Core.Path.{_≡_}
 use mathlib.Core.List.{List, [], _∷_}
 use Prim.Native.Nat.{ℕ, suc, _+_, _-_, _*_, _<_, _≤_, _^_}
 use lib.ListN.{length, take, drop}
-use lib.Seq.{slice}
 use Rattle.semantics.specs.Bytes.{Bytes, split}
-use Rattle.semantics.specs.Ty.{Ty}
 use Rattle.semantics.specs.Sheet.{Head, Place, AtExpression, rank, Want, at, arity}
-use Rattle.semantics.specs.Walk.{Env, Res, Fault, step, walk}
+use Rattle.semantics.specs.Walk.{Env, Res, step, walk}
 use Rattle.line.specs.Line.{HeadIs, ReadAs}
 use Rattle.line.specs.declared.line.Head.{Head as Seen}
 use Rattle.line.specs.declared.line.HirId.{HirId}
@@ -110,11 +108,6 @@ AnyWalked s b k c depth work work′ out out′ y r =
 pub record EntersAs (s : Bytes) (k : Seen) (c : Cur) (e : Seen) (d : Cur) : Type 0 where
   pub entry : k .word ≡ 40 → ReadAs s (k .next) e (split 10 (drop (k .next) s)) × (d .at ≡ k .next) × (d .line .0 ≡ c .line .0 + 1)
   pub itself : (k .word ≡ 40 → ⊥) → (e ≡ k) × (d ≡ c)
-
--- where a name starts
-pub record SpeltAs (name stop r : ℕ) : Type 0 where
-  pub below : r ≤ stop
-  pub same : (s : Bytes) → slice r stop s ≡ slice name stop s
 
 -- the answer of an expression
 abbrev pub ToldAs : Ended → HirId → Cur → Walk → Type 0

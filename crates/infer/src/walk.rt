@@ -2,12 +2,13 @@
 ghost use mathlib.Core.Path.{_≡_};
 ghost use Prim.Native.Nat.{_+_, _<_, _≤_};
 ghost use lib.ListN.{length};
-ghost use Rattle.infer.specs.Walks.{EntersAs, ToldAs, SpeltAs, ExprAsk, ExprWalked, AnyAsk, AnyWalked};
+ghost use Rattle.infer.specs.Walks.{EntersAs, ToldAs, ExprAsk, ExprWalked, AnyAsk, AnyWalked};
 use crate::rule::role_of;
 use crate::rule::rule_of;
 use crate::step::Env;
 use crate::step::Stepped;
 use crate::step::finish;
+use crate::step::spelt;
 use crate::step::start;
 use crate::step::step;
 use finish::Ended;
@@ -60,13 +61,6 @@ fn entered(sheet: &[u8], k: Head, c: Cur) -> Met
         head: read_line(sheet, p),
         cur,
     }
-}
-
-// Where the name of a line starts.
-fn spelt(k: Head) -> usize
-    ensures { λ r. ⌜ SpeltAs (k .name) (k .stop) r ⌝ }
-{
-    if k.name < k.stop { k.name } else { k.stop }
 }
 
 // What is kept, when the next child's type stands behind it.

@@ -25,7 +25,7 @@ use Rattle.infer.proofs.step.step.Reads as step-reads
 use Rattle.infer.proofs.walk.entered.Reads as entered-reads
 use Rattle.infer.proofs.walk.held.Reads as held-reads
 use Rattle.infer.proofs.walk.past.Reads as past-reads
-use Rattle.infer.proofs.walk.spelt.Reads as spelt-reads
+use Rattle.infer.proofs.step.spelt.Reads as spelt-reads
 use Rattle.infer.proofs.walk.told.Reads as told-reads
 use Rattle.line.proofs.read_line.Reads as read-line-reads
 use Rattle.line.proofs.class_of.Reads as class-of-reads
