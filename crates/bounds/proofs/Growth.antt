@@ -7,79 +7,19 @@ use Prim.Native.Nat.{ℕ, suc, zero, _+_, _*_, _≤_}
 use native.Mathlib.Omega.{arith}
 use lib.Dec.{eqb}
 use lib.ListN.{length, getD, take, drop, length-append, length-map}
-use Rattle.semantics.specs.Bytes.{Bytes, text}
-use Rattle.semantics.specs.Ty.{Base, tAny, tNull, tBool, tInt, tFloat, tNum, tString, tDate, tDatetime, tPath, tUnknown, Ty, base, tList, tMap, tNode, tRelationship, tUnion, among}
+use Rattle.semantics.specs.Bytes.{Bytes}
+use Rattle.semantics.specs.Ty.{tAny, tNull, tUnknown, Ty, base, tList, tMap, tNode, tRelationship, tUnion, among}
 use Rattle.semantics.specs.Unify.{Answer, agreed, mismatch, unify}
-use Rattle.semantics.specs.Builtins.{ArgShape, sAny, sList, sString, sListOrString, sGraphEntity, sMap, sGraphEntityOrMap, Builtin, ID, SIZE, HEAD, TAIL, LAST, KEYS, VALUES, signature, lookup, accepts, describe}
+use Rattle.semantics.specs.Builtins.{ArgShape, Builtin, ID, SIZE, HEAD, TAIL, LAST, KEYS, VALUES, signature, lookup, accepts}
 use Rattle.semantics.specs.Sheet.{Head, num, Role, plain, condition, answer, inner, Typing, constant, varType, element, slice, listing, mapping, calling, operator, unary, casing, membership, comprehension, Rule, silent, entering, typed, rank, place, rule, roles, arity, Want, fits, deeper, wanted, under}
-use Rattle.semantics.specs.Walk.{Fault, E2009, E2010, E2011, E2012, E2013, E5012, Res, Env, Need, aNumber, aString, aBool, meets as met?, require, Op, arithmetic, comparison, equality, boolean, string, concat, op, opFaults, unaryFaults, open?, apart, inFaults, argFaults, callFaults, tys, nth, asked, spread, ownBy, own, named, step, walk}
-use Rattle.semantics.specs.Calls.{typeName, faultText, faultLine}
+use Rattle.semantics.specs.Walk.{Fault, Res, Env, Need, aNumber, aString, aBool, meets as met?, require, Op, arithmetic, comparison, equality, boolean, string, concat, op, opFaults, unaryFaults, open?, apart, inFaults, argFaults, callFaults, tys, nth, asked, spread, ownBy, own, named, step, walk}
 use Rattle.semantics.proofs.All.{either}
 use Rattle.report.specs.Report.{faultsText}
+use Rattle.report.proofs.ReportLaws.{faults-short}
 use Rattle.hir.specs.Lines.{Met, all-met, meets}
 use Rattle.hir.proofs.LinesLaws.{Inner, AllIn, none-in, one-in, inner-under}
 use Rattle.walk_run.proofs.LevelsWalk.{Pairs, no-pairs, pairing, pairs-take, pairs-drop}
 use Rattle.bounds.specs.Sizes.{total, sizes}
-
--- ## A fault's line
-
-base-short : (b : Base) → length (typeName (base b)) ≤ 12
-unfolding typeName text
-base-short tAny = omega arith
-base-short tNull = omega arith
-base-short tBool = omega arith
-base-short tInt = omega arith
-base-short tFloat = omega arith
-base-short tNum = omega arith
-base-short tString = omega arith
-base-short tDate = omega arith
-base-short tDatetime = omega arith
-base-short tPath = omega arith
-base-short tUnknown = omega arith
-
-pub type-short : (t : Ty) → length (typeName t) ≤ 12
-unfolding typeName text
-type-short (base b) = base-short b
-type-short (tList t) = omega arith
-type-short (tMap fs) = omega arith
-type-short (tNode ls) = omega arith
-type-short (tRelationship n) = omega arith
-type-short (tUnion ts) = omega arith
-
-pub name-short : (b : Builtin) → length (signature b .name) ≤ 6
-unfolding signature text
-name-short ID = omega arith
-name-short SIZE = omega arith
-name-short HEAD = omega arith
-name-short TAIL = omega arith
-name-short LAST = omega arith
-name-short KEYS = omega arith
-name-short VALUES = omega arith
-
-pub shape-short : (p : ArgShape) → length (describe p) ≤ 26
-unfolding describe text
-shape-short sAny = omega arith
-shape-short sList = omega arith
-shape-short sString = omega arith
-shape-short sListOrString = omega arith
-shape-short sGraphEntity = omega arith
-shape-short sMap = omega arith
-shape-short sGraphEntityOrMap = omega arith
-
-pub fault-long : (f : Fault) → length (faultLine f) ≤ 53
-unfolding faultLine faultText text
-fault-long (E2009 t) = omega (arith, type-short t)
-fault-long (E2010 t) = omega (arith, type-short t)
-fault-long (E2011 t) = omega (arith, type-short t)
-fault-long (E2012 a e) = omega (arith, type-short a, type-short e, length-append (typeName a) (44 ∷ typeName e))
-fault-long (E2013 t) = omega (arith, type-short t)
-fault-long (E5012 b t p) =
-    omega (arith, name-short b, type-short t, shape-short p, length-append (signature b .name) (44 ∷ (typeName t ++ (44 ∷ describe p))), length-append (typeName t) (44 ∷ describe p))
-
-pub faults-long : (fs : List Fault) → length (faultsText fs) ≤ 128 * length fs
-unfolding faultsText
-faults-long [] = omega arith
-faults-long (f ∷ fs) = omega (arith, fault-long f, faults-long fs, length-append (faultLine f) (10 ∷ faultsText fs))
 
 -- ## The faults of a line
 
@@ -194,7 +134,7 @@ walk-faults env n (h ∷ hs) = let a = walk-faults env (suc n) hs in pairing (st
 
 -- the lines of the faults
 pub text-few : (r : Res) (k : ℕ) → FewRes r k → length (faultsText (r .faults)) + 512 ≤ 1024 * k
-text-few r k q = omega (arith, faults-long (r .faults))
+text-few r k q = omega (arith, faults-short (r .faults))
 
 text-pairs : {rs : List Res} {ks : List ℕ} → Pairs FewRes rs ks → Pairs (λ r k. length (faultsText (r .faults)) + 512 ≤ 1024 * k) rs ks
 text-pairs no-pairs = no-pairs

@@ -1,4 +1,4 @@
--- The search of a binding by halves. Assumes nothing.
+-- The search of a binding: each line read leaves fewer. Assumes nothing.
 use mathlib.Core.Path.{_≡_, refl, sym, _∙_, ap, subst}
 use mathlib.Core.List.{List, [], _∷_, _++_}
 use mathlib.Core.Option.{Option, none, some}

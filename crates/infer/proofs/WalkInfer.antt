@@ -24,6 +24,7 @@ use Rattle.ty.proofs.Sizes.{large-no}
 use Rattle.unify.proofs.UnionJoins.{small-long}
 use Rattle.hir.specs.Lines.{Lines, Met}
 use Rattle.ty.specs.Parts.{TypeAt}
+use Rattle.report.proofs.ReportLaws.{adds-then}
 use Rattle.report.specs.Report.{Adds}
 use Rattle.report.specs.declared.Tally.{Tally}
 use Rattle.walk_run.specs.Run.{Kept, empty, over, kept, both, items, last, entries, arms, start, child, end, Told, told, tooMuch, stopped, passed, after, kids, Ran, halted, typed, concluded, judged}
@@ -40,7 +41,7 @@ use Rattle.infer.specs.declared.walk.Walk.the-variants.{Done, TooLarge}
 use Rattle.infer.proofs.WalkTable.{typingOf, KidsOf, kids-at}
 use Rattle.infer.proofs.WalkTrees.{no-wants, tree-ends}
 use Rattle.infer.proofs.WalkKept.{form-before, form-whole, weak, before-weak, fine-weak, child-weak, leaves}
-use Rattle.infer.proofs.WalkSmall.{adds-two, adds-long, type-behind, child-room, low-weak, end-room, spelt-name, asks-kids, kids-arity}
+use Rattle.infer.proofs.WalkSmall.{adds-long, type-behind, child-room, low-weak, end-room, spelt-name, asks-kids, kids-arity}
 use Rattle.infer.proofs.WalkLoop.{Base, expr-in, base-pos, base-typed, base-passed, Loop}
 use Rattle.infer.proofs.WalkTurn.{DoneAs, walked-done, walked-large, roleAt, loop-len, turn-first, turn-read, turn-any, turn-ask, turnRes, turn-halted, turn-large, turn-fine, turn-level, turn-name, turn-on, turn-countable}
 
@@ -263,7 +264,7 @@ module _ {s : Bytes} {b : Binds} {h : Seen} {here depth : ℕ} {hd : Head} {hs k
           go : (v : Told) (e : Ended) → EndedAs v work′ out out′ y e → ToldAs e i c r → WalkedAs (concluded here v (L .faults ++ [])) work′ out₀ out′ y₀ (Behind env s here hd hs ks) r
           go (told t gs) (Typed len m) a f =
               subst (WalkedAs (typed t ((L .faults ++ []) ++ gs)) work′ out₀ out′ y₀ (Behind env s here hd hs ks)) (sym f)
-              (a .0, subst (λ (x : List Fault). Adds (x ++ gs) out₀ out′ y₀ m) (sym (append-nil (L .faults))) (adds-two (L .adds) (a .1)), end-behind)
+              (a .0, subst (λ (x : List Fault). Adds (x ++ gs) out₀ out′ y₀ m) (sym (append-nil (L .faults))) (adds-then (L .adds) (a .1)), end-behind)
           go (told t gs) Ended·Large a f = absurd a
           go tooMuch (Typed len m) a f = absurd a
           go tooMuch Ended·Large a f = subst (WalkedAs (halted here) work′ out₀ out′ y₀ (Behind env s here hd hs ks)) (sym f) same

@@ -13,6 +13,7 @@ use Rattle.line.specs.Line.{HeadIs}
 use Rattle.line.specs.declared.line.Head.{Head as Seen}
 use Rattle.hir.specs.Lines.{Lines, Met}
 use Rattle.hir.proofs.LinesLaws.{Inner, AllIn, inner-under}
+use Rattle.report.proofs.ReportLaws.{adds-none}
 use Rattle.report.specs.Report.{faultsText, Adds}
 use Rattle.report.specs.declared.Tally.{Tally}
 use Rattle.walk_run.specs.Run.{Kept, start, child, end, Kids, stopped, passed, after, kids, halted, typed, concluded, closed, runStep, judged}
@@ -27,7 +28,7 @@ use Rattle.infer.specs.declared.walk.Cur.{Cur}
 use Rattle.infer.proofs.WalkTable.{typingOf, typed-at}
 use Rattle.infer.proofs.WalkTrees.{met-fits, met-rank, met-under, kids-many}
 use Rattle.infer.proofs.WalkKept.{Form, form-start, LowKept, low-start}
-use Rattle.infer.proofs.WalkSmall.{adds-none, after-none}
+use Rattle.infer.proofs.WalkSmall.{after-none}
 use Rattle.infer.proofs.EndLaws.{variable-read}
 
 -- ## An expression's line, and what hangs under it
@@ -157,7 +158,7 @@ loop-start {s} {h} {here} {depth} {hd} {hs} {ks} B env out work y c st e a =
       fine = a .1;
       form = form-start q;
       low = low-start (depth - 1) q;
-      adds = adds-none out y;
+      adds = adds-none;
       text = omega arith;
       few = omega arith;
     }

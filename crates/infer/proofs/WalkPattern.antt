@@ -18,6 +18,7 @@ use Rattle.hir.specs.Check.{KidsAs}
 use Rattle.hir.specs.declared.valid.Kids.{Kids as Hung}
 use Rattle.hir.specs.Lines.{Lines, no-line, a-line, Met, all-met, meets}
 use Rattle.hir.proofs.LinesLaws.{Inner, AllIn, one-in, inner-under, read-at}
+use Rattle.report.proofs.ReportLaws.{adds-none, adds-then}
 use Rattle.report.specs.Report.{faultsText, Adds}
 use Rattle.report.specs.declared.Tally.{Tally}
 use Rattle.walk_run.specs.Run.{end, Ran, halted, typed, judged, allFaults}
@@ -32,7 +33,7 @@ use Rattle.infer.specs.declared.walk.Walk.{Walk}
 use Rattle.infer.specs.declared.walk.Walk.the-variants.{Done, TooLarge}
 use Rattle.infer.proofs.WalkTable.{passes-at}
 use Rattle.infer.proofs.WalkTrees.{lines-in, FirstLine, first-line, no-wants, First, first-met, met-rank, kids-many, walk-first, tree-ends, tree-shorter, judged-none, judged-some, faults-append, tests-append, passes-on}
-use Rattle.infer.proofs.WalkSmall.{text-long, adds-none, adds-two, adds-long, unknown-front, kids-arity}
+use Rattle.infer.proofs.WalkSmall.{text-long, adds-long, unknown-front, kids-arity}
 use Rattle.infer.proofs.WalkTurn.{wanted-at, DoneAs, walked-done, walked-large}
 use borrow.Author.Tests.{ne-eqb}
 
@@ -142,7 +143,7 @@ pat-start {s} {p} {depth} {c} t i env out y =
       room = t .room;
       same = sym (append-nil (r .faults)) ∙ ap allFaults (sym w);
       tests = ap firstLarge (sym (append-nil (r .tests)) ∙ ap allTests (sym w));
-      adds = adds-none out y;
+      adds = adds-none;
       text = omega arith;
       few = omega arith;
     }
@@ -275,7 +276,7 @@ module _ {s : Bytes} {depth here : ℕ} {hd : Head} {hs ks : List Head} {env : E
                   tests = pat-tests
                       ∙ ap (λ (o : Option ℕ). first o (firstLarge (allTests (take (todo - 1) (drop (arity (pat-first .head)) (walk env (suc (c .line .0)) (pat-first .under))))))) (pat-done .none)
                       ∙ ap (λ (x : List Res). firstLarge (allTests (take (todo - 1) x))) (b .walked);
-                  adds = adds-two (L .adds) (pat-done .adds);
+                  adds = adds-then (L .adds) (pat-done .adds);
                   text = omega (arith, L .text, t .0, la, text-long (L .faults) (patRes .faults));
                   few = omega (arith, L .few, t .1, la, length-append (L .faults) (patRes .faults));
                 }

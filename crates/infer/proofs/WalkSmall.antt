@@ -5,18 +5,15 @@ use mathlib.Core.List.{List, [], _∷_, _++_, append-assoc, map}
 use mathlib.Core.Option.{none, some}
 use Prim.Native.Nat.{ℕ, suc, zero, _+_, _-_, _*_, _/_, _≤_, _<_}
 use native.Mathlib.Omega.{arith}
-use native.Mathlib.Nat.{add-zero}
 use lib.ListN.{length, getD, take, drop, set, length-append, length-map, length-replicate, replicate}
-use lib.Seq.{slice, take-nil, sets, length-sets, length-take-le, drop-at, take-append-add}
+use lib.Seq.{slice, take-nil, length-sets, length-take-le, drop-at, take-append-add}
 use Rattle.semantics.specs.Bytes.{Bytes, hex}
 use Rattle.semantics.specs.Ty.{Ty, base, tUnknown, tList, line, lineTo, letter, regular}
 use Rattle.semantics.specs.Sheet.{Head, Typing, constant, varType, element, slice as slicing, listing, mapping, calling, operator, unary, casing, membership, comprehension, typed, row, rule, roles, arity, at, wanted}
 use Rattle.semantics.specs.Walk.{Fault}
-use Rattle.semantics.specs.Calls.{faultLine}
 use Rattle.semantics.proofs.Regular.{regular-sound}
 use Rattle.unify_run.proofs.Size.{element-inside, small-sound, small-true}
 use Rattle.unify.specs.Work.{slots}
-use Rattle.text.proofs.Laws.{sets-append}
 use Rattle.line.specs.Line.{HeadIs}
 use Rattle.line.specs.declared.line.Head.{Head as Seen}
 use Rattle.line.proofs.Rows.{word-range}
@@ -28,6 +25,7 @@ use Rattle.hir.proofs.PlaceLaws.{kids-of, flag-small, count-small}
 use Rattle.ty.specs.Parts.{TypeAt}
 use Rattle.report.specs.Report.{faultsText, Adds}
 use Rattle.report.specs.declared.Tally.{Tally}
+use Rattle.report.proofs.ReportLaws.{faults-append}
 use Rattle.walk_run.specs.Run.{Kept, empty, over, kept, both, items, last, entries, arms, Kids as Ran, stopped, passed, after}
 use Rattle.walk_run.proofs.Levels.{Low}
 use Rattle.kept.specs.State.{Fine, FineKept}
@@ -38,26 +36,8 @@ use Rattle.infer.proofs.EndLaws.{name-spelt}
 
 -- ## Faults
 
-pub text-append : (a b : List Fault) → faultsText (a ++ b) ≡ faultsText a ++ faultsText b
-unfolding faultsText
-text-append [] b = refl
-text-append (f ∷ a) b = ap (λ (x : Bytes). faultLine f ++ (10 ∷ x)) (text-append a b) ∙ sym (append-assoc (faultLine f) (10 ∷ faultsText a) (faultsText b))
-
 pub text-long : (a b : List Fault) → length (faultsText (a ++ b)) ≡ length (faultsText a) + length (faultsText b)
-text-long a b = ap length (text-append a b) ∙ length-append (faultsText a) (faultsText b)
-
-pub adds-none : (out : Bytes) (y : Tally) → Adds [] out out y y
-unfolding faultsText
-adds-none out y = record { text = refl; end = sym (add-zero (y .fill)); count = sym (add-zero (y .faults)) }
-
-pub adds-two : {a b : List Fault} {o o′ o″ : Bytes} {t t′ t″ : Tally} → Adds a o o′ t t′ → Adds b o′ o″ t′ t″ → Adds (a ++ b) o o″ t t″
-adds-two {a} {b} {o} {o′} {o″} {t} {t′} {t″} x y =
-    record {
-      text = y .text ∙ ap (λ (l : Bytes). sets l (t′ .fill) (faultsText b)) (x .text) ∙ ap (λ (n : ℕ). sets (sets o (t .fill) (faultsText a)) n (faultsText b)) (x .end)
-          ∙ sym (sets-append o (t .fill) (faultsText a) (faultsText b)) ∙ ap (sets o (t .fill)) (sym (text-append a b));
-      end = omega (arith, x .end, y .end, text-long a b);
-      count = omega (arith, x .count, y .count, length-append a b);
-    }
+text-long a b = ap length (faults-append a b) ∙ length-append (faultsText a) (faultsText b)
 
 pub adds-long : {a : List Fault} {o o′ : Bytes} {t t′ : Tally} → Adds a o o′ t t′ → length o′ ≡ length o
 adds-long {a} {o} {o′} {t} x = ap length (x .text) ∙ length-sets o (t .fill) (faultsText a)

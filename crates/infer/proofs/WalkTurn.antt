@@ -20,6 +20,7 @@ use Rattle.hir.specs.Lines.{Lines, Met}
 use Rattle.hir.proofs.LinesLaws.{Inner, AllIn, one-in, read-at}
 use Rattle.ty.specs.Parts.{TypeAt}
 use Rattle.unify_run.specs.Run.{given}
+use Rattle.report.proofs.ReportLaws.{adds-then, faults-short}
 use Rattle.report.specs.Report.{Adds}
 use Rattle.report.specs.declared.Tally.{Tally}
 use Rattle.walk_run.specs.Run.{Kept, start, child, end, Kids, stopped, after, haltAt, kids, Ran, halted, judged}
@@ -28,7 +29,7 @@ use Rattle.walk_run.proofs.Fine.{FineRes, walk-fine}
 use Rattle.walk_run.proofs.Silent.{entering-run}
 use Rattle.kept.specs.State.{StAs, Fine, FineKept}
 use Rattle.kept.specs.declared.St.{St}
-use Rattle.bounds.proofs.Growth.{tree-faults, faults-long, asked-few}
+use Rattle.bounds.proofs.Growth.{tree-faults, asked-few}
 use Rattle.infer.specs.Steps.{EnvAs}
 use Rattle.infer.specs.declared.step.Env.{Env as Binds}
 use Rattle.infer.specs.Walks.{resultOf, Counting, Behind, WalkedAs, AnyAt, AnyAsk}
@@ -38,7 +39,7 @@ use Rattle.infer.specs.declared.walk.Walk.the-variants.{Done, TooLarge}
 use Rattle.infer.proofs.WalkTable.{typingOf, entering-at, entry-arity, KidsOf, kids-at}
 use Rattle.infer.proofs.WalkTrees.{lines-in, FirstLine, first-line, First, first-met, met-rank, kids-many, walk-first, judged-none, judged-some}
 use Rattle.infer.proofs.WalkKept.{Form, if-kept, form-step, LowKept, low-step, place-small}
-use Rattle.infer.proofs.WalkSmall.{text-long, adds-two, after-two}
+use Rattle.infer.proofs.WalkSmall.{text-long, after-two}
 use Rattle.infer.proofs.WalkLoop.{Base, base-pos, base-typed, base-stopped, Loop}
 
 -- ## Small facts
@@ -267,7 +268,7 @@ module _ {s : Bytes} {h : Seen} {here depth : ℕ} {hd : Head} {hs ks : List Hea
         let gs = turnRes .faults ++ asked p (turnRes .ty) in
         let t = tree-faults env (c .line .0) (turn-first .head) (turn-first .under) (turn-first .behind) (at (placed p) (25 - (depth - 1))) turn-in (turn-first .met) in
         let la = ap length (turn-first .same) in
-        let fl = faults-long (asked p (turnRes .ty)) in
+        let fl = faults-short (asked p (turnRes .ty)) in
         let af = asked-few p (turnRes .ty) in
         record {
           heads = turn-first .behind;
@@ -288,7 +289,7 @@ module _ {s : Bytes} {h : Seen} {here depth : ℕ} {hd : Head} {hs ks : List Hea
           fine = f;
           form = if-kept (Form q (suc j)) (child q p (L .kept) (turnRes .name) (turnRes .ty)) i (form-step q p j (L .kept) (turnRes .name) (turnRes .ty) (L .form)) d;
           low = if-kept (LowKept (depth - 1)) (child q p (L .kept) (turnRes .name) (turnRes .ty)) i (low-step (depth - 1) q p (L .kept) (turnRes .name) (turnRes .ty) (L .low) turn-level) d;
-          adds = adds-two (L .adds) (adds-two a₁ a₂);
+          adds = adds-then (L .adds) (adds-then a₁ a₂);
           text = omega (arith, L .text, t .0, la, fl, af, text-long (L .faults) gs, text-long (turnRes .faults) (asked p (turnRes .ty)));
           few = omega (arith, L .few, t .1, la, af, length-append (L .faults) gs, length-append (turnRes .faults) (asked p (turnRes .ty)));
         }
