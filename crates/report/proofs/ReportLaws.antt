@@ -19,7 +19,7 @@ use Rattle.ty.specs.Read.{kindOf}
 use Rattle.ty.proofs.KindLaws.{name-part}
 use Rattle.builtins.proofs.Laws.{name-short, describe-short}
 use Rattle.report.specs.declared.Tally.{Tally}
-use Rattle.report.specs.Report.{faultsText, typeText, topsText, endText, startText, Appends, Adds, codeFault, IsCode, OpenKind, NumericKind}
+use Rattle.report.specs.Report.{faultsText, typeText, topsText, endText, startText, Appends, Starts, Adds, codeFault, IsCode, IsFaultCode, OpenKind, NumericKind}
 
 -- ## One text behind another
 
@@ -74,6 +74,21 @@ adds-one f {s} {out} {out′} {t} {t′} {k} e a n =
       end = n .0 ∙ a .end ∙ ap (λ (x : Bytes). t .fill + length x) (sym e);
       count = n .1;
     }
+
+-- a fault line's start: the fixed bytes of its code
+pub starts : (k : ℕ) {c : ℕ} {o o′ : Bytes} {f r : ℕ} → c ≡ k → length (startText k) ≤ 7 → (r ≡ f + length (startText k)) × (o′ ≡ sets o f (startText k))
+    → Starts c o o′ f r
+starts k {c} {o} {o′} {f} {r} e l p =
+    subst (λ (n : ℕ). Starts n o o′ f r) (sym e) (record { appended = wrote (startText k) p; short = omega (arith, p .0, l) })
+
+-- the code that is left
+pub last-code : (c : ℕ) → IsFaultCode c → (c ≡ 2009 → ⊥) → (c ≡ 2010 → ⊥) → (c ≡ 2011 → ⊥) → (c ≡ 2012 → ⊥) → (c ≡ 2013 → ⊥) → c ≡ 5012
+last-code c (inl (inl e)) h i j k l = absurd (h e)
+last-code c (inl (inr (inl e))) h i j k l = absurd (i e)
+last-code c (inl (inr (inr (inl e)))) h i j k l = absurd (j e)
+last-code c (inl (inr (inr (inr e)))) h i j k l = absurd (l e)
+last-code c (inr (inl e)) h i j k l = absurd (k e)
+last-code c (inr (inr e)) h i j k l = e
 
 -- the texts of the lines
 abbrev CodeLine : Ty → ℕ → Type 0

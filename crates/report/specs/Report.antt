@@ -29,9 +29,13 @@ unfoldable pub topsText : List Top → Bytes
 topsText [] = []
 topsText (t ∷ ts) = faultsText (t .faults) ++ (typeText (t .ty) ++ topsText ts)
 
+-- a line of a head and two numbers
+abbrev pub numbersText : Bytes → ℕ → ℕ → Bytes
+numbersText s n m = s ++ (shown n ++ (44 ∷ (shown m ++ (10 ∷ []))))
+
 -- the last line, by its two counts
 abbrev pub endText : ℕ → ℕ → Bytes
-endText n m = text "end," ++ (shown n ++ (44 ∷ (shown m ++ (10 ∷ []))))
+endText n m = numbersText (text "end,") n m
 
 -- a fault line up to what it tells
 abbrev pub startText : ℕ → Bytes
@@ -45,7 +49,12 @@ pub record Appends (s : Bytes) (out out′ : Bytes) (fill fill′ : ℕ) : Type 
 -- the same of a fault line's start, which is short
 pub record Starts (c : ℕ) (out out′ : Bytes) (fill fill′ : ℕ) : Type 0 where
   pub appended : Appends (startText c) out out′ fill fill′
-  pub short : fill′ ≤ fill + 23
+  pub short : fill′ ≤ fill + 7
+
+-- the same of a line of two numbers, which have at most 20 digits
+pub record NumbersLine (s : Bytes) (n m : ℕ) (out out′ : Bytes) (fill fill′ : ℕ) : Type 0 where
+  pub appended : Appends (numbersText s n m) out out′ fill fill′
+  pub short : fill′ ≤ fill + length s + 42
 
 -- these faults were added
 pub record Adds (fs : List Fault) (out out′ : Bytes) (t t′ : Tally) : Type 0 where
@@ -60,6 +69,10 @@ codeFault c t =
 
 abbrev pub IsCode : ℕ → Type 0
 IsCode c = (c ≡ 2009) ⊎ ((c ≡ 2010) ⊎ ((c ≡ 2011) ⊎ (c ≡ 2013)))
+
+-- a code of the six
+abbrev pub IsFaultCode : ℕ → Type 0
+IsFaultCode c = IsCode c ⊎ ((c ≡ 2012) ⊎ (c ≡ 5012))
 
 -- the answer for every type of this kind
 abbrev pub OpenKind : ℕ → Bool → Type 0

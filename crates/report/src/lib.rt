@@ -3,13 +3,14 @@ ghost use mathlib.Core.Path.{_≡_};
 ghost use mathlib.Core.List.{[], _∷_};
 ghost use Prim.Native.Nat.{_+_, _<_, _^_};
 ghost use lib.ListN.{length};
+ghost use Rattle.semantics.specs.Bytes.{text};
 ghost use Rattle.semantics.specs.Ty.{Ty, line};
 ghost use Rattle.semantics.specs.Walk.{E2012, E5012, require, aNumber, aString, aBool};
 ghost use Rattle.semantics.specs.Builtins.{signature};
 ghost use Rattle.ty.specs.Read.{kindOf};
 ghost use Rattle.ty.specs.Kind.{SomeKind};
 ghost use Rattle.builtins.specs.Rows.{builtinOf};
-ghost use Rattle.report.specs.Report.{Appends, Starts, Adds, codeFault, IsCode, OpenKind, NumericKind, typeText, endText};
+ghost use Rattle.report.specs.Report.{Appends, Starts, Adds, codeFault, IsCode, IsFaultCode, OpenKind, NumericKind, NumbersLine, typeText, endText};
 
 // How far the output is filled, whether it fits or not, and how many faults there are.
 pub struct Tally {
@@ -27,14 +28,19 @@ fn tallied(t: Tally, fill: usize) -> Tally
     }
 }
 
-// `F,` and the code and a comma.
+// `F,` and the code and a comma: each code's bytes are fixed, no digit is worked out.
 fn fault_start(out: &mut [u8], fill: usize, code: u64) -> usize
-    requires { ⌜ fill + 23 < 2 ^ 64 ⌝ }
+    requires { ⌜ (fill + 7 < 2 ^ 64) × IsFaultCode code ⌝ }
     ensures { λ r. ⌜ Starts code (now (out .entry)) (now (out .exit)) fill r ⌝ }
 {
-    let f = text::append(out, fill, b"F,");
-    let g = text::append_decimal(out, f, code);
-    text::put(out, g, 44)
+    match code {
+        2009 => text::append(out, fill, b"F,2009,"),
+        2010 => text::append(out, fill, b"F,2010,"),
+        2011 => text::append(out, fill, b"F,2011,"),
+        2012 => text::append(out, fill, b"F,2012,"),
+        2013 => text::append(out, fill, b"F,2013,"),
+        _ => text::append(out, fill, b"F,5012,"),
+    }
 }
 
 // A fault that tells one type, by its letter.
@@ -145,14 +151,30 @@ pub fn type_line(out: &mut [u8], fill: usize, text: &[u8]) -> usize
     text::put(out, g, 10)
 }
 
+// A line of a head and two numbers.
+fn numbers_line(out: &mut [u8], fill: usize, head: &[u8], first: u64, second: u64) -> usize
+    requires { ⌜ fill + length (now head) + 42 < 2 ^ 64 ⌝ }
+    ensures { λ r. ⌜ NumbersLine (now (head .entry)) first second (now (out .entry)) (now (out .exit)) fill r ⌝ }
+{
+    let f = text::append(out, fill, head);
+    let g = text::append_decimal(out, f, first);
+    let h = text::put(out, g, 44);
+    let i = text::append_decimal(out, h, second);
+    text::put(out, i, 10)
+}
+
 // The last line.
 pub fn end_line(out: &mut [u8], fill: usize, types: u64, faults: u64) -> usize
     requires { ⌜ fill + 64 < 2 ^ 64 ⌝ }
     ensures { λ r. ⌜ Appends (endText types faults) (now (out .entry)) (now (out .exit)) fill r ⌝ }
 {
-    let f = text::append(out, fill, b"end,");
-    let g = text::append_decimal(out, f, types);
-    let h = text::put(out, g, 44);
-    let i = text::append_decimal(out, h, faults);
-    text::put(out, i, 10)
+    numbers_line(out, fill, b"end,", types, faults)
+}
+
+// What a program prints of a refusal (01, "A sheet enters"): at most 50 bytes.
+pub fn refused_line(out: &mut [u8], fill: usize, number: u64, place: u64) -> usize
+    requires { ⌜ fill + 64 < 2 ^ 64 ⌝ }
+    ensures { λ r. ⌜ NumbersLine (text "refused,") number place (now (out .entry)) (now (out .exit)) fill r ⌝ }
+{
+    numbers_line(out, fill, b"refused,", number, place)
 }

@@ -1,2 +1,4 @@
+pub mod DecimalCases
 pub mod Laws
 pub mod Words
+pub mod Tens

@@ -1,11 +1,14 @@
 // Byte texts: compare, copy and rotate parts, append past the end, clear, decimal and hexadecimal digits, the ends of fields.
+mod decimals;
+
+pub use decimals::append_decimal;
 ghost use mathlib.Core.Path.{_≡_};
 ghost use mathlib.Core.Logic.{_⊎_};
 ghost use mathlib.Core.List.{_++_, map};
 ghost use Prim.Native.Nat.{_+_, _*_, _≤_, _<_, _^_};
 ghost use lib.ListN.{length, take, drop, getD, set, replicate};
 ghost use lib.Seq.{sets, slice};
-ghost use Rattle.semantics.specs.Bytes.{lex, same, digit?, unhex, decimal, shown, digits};
+ghost use Rattle.semantics.specs.Bytes.{lex, same, digit?, unhex, decimal, digits};
 ghost use Rattle.semantics.specs.Builtins.{lower, folded};
 ghost use Rattle.text.specs.Text.{orderOf, hex?, digitOf, some?, grown, decOf, Ends, rotated};
 
@@ -129,23 +132,6 @@ pub fn append(out: &mut [u8], fill: usize, t: &[u8]) -> usize
         i += 1;
     }
     at
-}
-
-// The decimal digits of n, appended: written from the last into an array first.
-pub fn append_decimal(out: &mut [u8], fill: usize, n: u64) -> usize
-    requires { ⌜ fill + 20 < 2 ^ 64 ⌝ }
-    ensures { λ r. ⌜ (r ≡ fill + length (shown n)) × (now (out .exit) ≡ sets (now (out .entry)) fill (shown n)) × (r ≤ fill + 20) ⌝ }
-{
-    let mut buf = [0u8; 20];
-    let mut m = n;
-    let mut i = 19;
-    while m >= 10 {
-        buf[i] = 48 + (m % 10) as u8;
-        m /= 10;
-        i -= 1;
-    }
-    buf[i] = 48 + m as u8;
-    append(out, fill, &buf[i..])
 }
 
 // Zeros every byte.

@@ -4,11 +4,9 @@ use libc::STDOUT_FILENO;
 
 // A refusal.
 fn say_refused(number: u32, place: u64) {
-    io::write_all(STDOUT_FILENO, b"refused,");
-    io::print_decimal(STDOUT_FILENO, number as u64);
-    io::write_all(STDOUT_FILENO, b",");
-    io::print_decimal(STDOUT_FILENO, place);
-    io::write_all(STDOUT_FILENO, b"\n");
+    let mut line = [0u8; 64];
+    let n = report::refused_line(&mut line, 0, number as u64, place);
+    io::write_all(STDOUT_FILENO, &line[..n]);
 }
 
 // A sheet's outcome.

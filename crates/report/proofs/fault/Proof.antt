@@ -1,6 +1,7 @@
 -- `fault`: the start, the name and the end of the line, one behind the other. Assumes nothing.
 use borrow.Author.Needs.{needs}
 use native.Mathlib.Omega.{arith}
+use mathlib.Core.Logic.{inl, inr}
 use Rattle.semantics.specs.Calls.{typeName}
 use Rattle.report.specs.Report.{codeFault}
 use Rattle.report.proofs.ReportLaws.{_▹_, wrote, one, adds-one, code-line, type-name-short}
@@ -8,7 +9,7 @@ use Rattle.report.proofs.fault.Statement.{statement}
 use Rattle.report.proofs.fault.Tie as tie
 
 fault-start-requires : tie.Need-fault-start-requires
-fault-start-requires c κs = search needs
+fault-start-requires c κs = (search needs, inl (c .before .before .pre .2))
 
 append-type-name-requires : tie.Need-append-type-name-requires
 append-type-name-requires c κs = search needs

@@ -1,6 +1,8 @@
 -- `fault_call`: the parts of the line, one behind the other. Assumes nothing.
 use borrow.Author.Needs.{needs}
 use native.Mathlib.Omega.{arith}
+use mathlib.Core.Logic.{inl, inr}
+use mathlib.Core.Path.{refl}
 use mathlib.Core.Path.{_∙_}
 use Rattle.semantics.specs.Builtins.{signature, describe}
 use Rattle.semantics.specs.Calls.{typeName}
@@ -12,7 +14,7 @@ use Rattle.report.proofs.fault_call.Statement.{statement}
 use Rattle.report.proofs.fault_call.Tie as tie
 
 fault-start-requires : tie.Need-fault-start-requires
-fault-start-requires c κs = search needs
+fault-start-requires c κs = (search needs, inr (inr refl))
 
 append-name-requires : tie.Need-append-name-requires
 append-name-requires c κs = search needs

@@ -1,6 +1,8 @@
 -- `fault_in`: the parts of the line, one behind the other. Assumes nothing.
 use borrow.Author.Needs.{needs}
 use native.Mathlib.Omega.{arith}
+use mathlib.Core.Logic.{inl, inr}
+use mathlib.Core.Path.{refl}
 use Rattle.semantics.specs.Calls.{typeName}
 use Rattle.semantics.specs.Walk.{E2012}
 use Rattle.report.proofs.ReportLaws.{_▹_, wrote, one, adds-one, in-line, type-name-short}
@@ -8,7 +10,7 @@ use Rattle.report.proofs.fault_in.Statement.{statement}
 use Rattle.report.proofs.fault_in.Tie as tie
 
 fault-start-requires : tie.Need-fault-start-requires
-fault-start-requires c κs = search needs
+fault-start-requires c κs = (search needs, inr (inl refl))
 
 append-type-name-requires : tie.Need-append-type-name-requires
 append-type-name-requires c κs = search needs

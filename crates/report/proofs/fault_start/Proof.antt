@@ -1,8 +1,8 @@
--- `fault_start`: three texts, one behind the other. Assumes nothing.
+-- `fault_start`: the fixed bytes of a code are its digits, computed. Assumes nothing.
+use native.Mathlib.Omega.{arith}
+use Rattle.semantics.specs.Bytes.{shown, shownIn}
+use Rattle.report.proofs.ReportLaws.{starts, last-code}
 use borrow.Author.Needs.{needs}
-use mathlib.Core.List.{[], _∷_}
-use Rattle.semantics.specs.Bytes.{shown}
-use Rattle.report.proofs.ReportLaws.{_▹_, wrote, one}
 use Rattle.report.proofs.fault_start.Statement.{statement}
 use Rattle.report.proofs.fault_start.Tie as tie
 
@@ -12,25 +12,81 @@ slice-aggregate-append c = search needs
 append-requires : tie.Need-append-requires
 append-requires c κs = search needs
 
-append-decimal-requires : tie.Need-append-decimal-requires
-append-decimal-requires c κs = search needs
+slice-aggregate-append-2 : tie.Need-slice-aggregate-append-2
+slice-aggregate-append-2 c = search needs
 
-put-requires : tie.Need-put-requires
-put-requires c κs = search needs
+append-requires-2 : tie.Need-append-requires-2
+append-requires-2 c κs = search needs
+
+slice-aggregate-append-3 : tie.Need-slice-aggregate-append-3
+slice-aggregate-append-3 c = search needs
+
+append-requires-3 : tie.Need-append-requires-3
+append-requires-3 c κs = search needs
+
+slice-aggregate-append-4 : tie.Need-slice-aggregate-append-4
+slice-aggregate-append-4 c = search needs
+
+append-requires-4 : tie.Need-append-requires-4
+append-requires-4 c κs = search needs
+
+slice-aggregate-append-5 : tie.Need-slice-aggregate-append-5
+slice-aggregate-append-5 c = search needs
+
+append-requires-5 : tie.Need-append-requires-5
+append-requires-5 c κs = search needs
+
+slice-aggregate-append-6 : tie.Need-slice-aggregate-append-6
+slice-aggregate-append-6 c = search needs
+
+append-requires-6 : tie.Need-append-requires-6
+append-requires-6 c κs = search needs
 
 same-length : tie.Need-same-length
 same-length c = search needs
 
 returns : tie.Need-returns
-returns c =
-    let st = c .before .before .before .before .before .before .before .before .before .before .before .before .before .before in
-    let d = c .before .before .before .before .before .before .append-decimal .ensures in
-    record {
-      appended = wrote (70 ∷ 44 ∷ []) (c .before .before .before .before .before .before .before .before .before .before .append .ensures)
-          ▹ wrote (shown (st .args .code)) (d .0, d .1)
-          ▹ one 44 (c .before .before .put .ensures);
-      short = search needs;
-    }
+unfolding shown shownIn
+returns c = starts 2009 (c .before .before .before .before .before .match .keys1) (omega arith) (c .before .before .append .ensures)
+
+same-length-2 : tie.Need-same-length-2
+same-length-2 c = search needs
+
+returns-2 : tie.Need-returns-2
+unfolding shown shownIn
+returns-2 c = starts 2010 (c .before .before .before .before .before .match .keys2) (omega arith) (c .before .before .append2 .ensures)
+
+same-length-3 : tie.Need-same-length-3
+same-length-3 c = search needs
+
+returns-3 : tie.Need-returns-3
+unfolding shown shownIn
+returns-3 c = starts 2011 (c .before .before .before .before .before .match .keys3) (omega arith) (c .before .before .append3 .ensures)
+
+same-length-4 : tie.Need-same-length-4
+same-length-4 c = search needs
+
+returns-4 : tie.Need-returns-4
+unfolding shown shownIn
+returns-4 c = starts 2012 (c .before .before .before .before .before .match .keys4) (omega arith) (c .before .before .append4 .ensures)
+
+same-length-5 : tie.Need-same-length-5
+same-length-5 c = search needs
+
+returns-5 : tie.Need-returns-5
+unfolding shown shownIn
+returns-5 c = starts 2013 (c .before .before .before .before .before .match .keys5) (omega arith) (c .before .before .append5 .ensures)
+
+same-length-6 : tie.Need-same-length-6
+same-length-6 c = search needs
+
+returns-6 : tie.Need-returns-6
+unfolding shown shownIn
+returns-6 c =
+    let m = c .before .before .before .before .before in
+    let r = m .match .rest in
+    let e = last-code (m .before .before .args .code) (m .before .before .pre .1) (r .0 .0 .0 .0 .1) (r .0 .0 .0 .1) (r .0 .0 .1) (r .0 .1) (r .1) in
+    starts 5012 e (omega arith) (c .before .before .append6 .ensures)
 
 pub fault-start-spec : {M : Type 1} → statement M
 fault-start-spec =
@@ -38,7 +94,25 @@ fault-start-spec =
     (tie.spec
     slice-aggregate-append
     append-requires
-    append-decimal-requires
-    put-requires
+    slice-aggregate-append-2
+    append-requires-2
+    slice-aggregate-append-3
+    append-requires-3
+    slice-aggregate-append-4
+    append-requires-4
+    slice-aggregate-append-5
+    append-requires-5
+    slice-aggregate-append-6
+    append-requires-6
     same-length
-    returns)
+    returns
+    same-length-2
+    returns-2
+    same-length-3
+    returns-3
+    same-length-4
+    returns-4
+    same-length-5
+    returns-5
+    same-length-6
+    returns-6)

@@ -1,0 +1,22 @@
+-- `refused_line`: a refusal is a line of two numbers. Assumes nothing.
+use Rattle.semantics.specs.Bytes.{text}
+use borrow.Author.Needs.{needs}
+use Rattle.report.proofs.refused_line.Statement.{statement}
+use Rattle.report.proofs.refused_line.Tie as tie
+
+slice-aggregate-numbers-line : tie.Need-slice-aggregate-numbers-line
+slice-aggregate-numbers-line c = search needs
+
+numbers-line-requires : tie.Need-numbers-line-requires
+numbers-line-requires c κs = search needs
+
+same-length : tie.Need-same-length
+same-length c = search needs
+
+returns : tie.Need-returns
+unfolding text
+returns c = c .before .before .numbers-line .ensures
+
+pub refused-line-spec : {M : Type 1} → statement M
+refused-line-spec =
+    tie.close (tie.spec slice-aggregate-numbers-line numbers-line-requires same-length returns)
