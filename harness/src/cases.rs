@@ -89,6 +89,11 @@ pub fn sheet_case(rng: &mut Random) -> Case {
 /// A random unify call.
 pub fn pair_case(rng: &mut Random) -> Case {
     let (a, b) = text_pair(rng);
+    pair_call(rng, a, b)
+}
+
+/// A unify call on two texts: mostly with buffers that earn neither 2 nor 7.
+pub fn pair_call(rng: &mut Random, a: Vec<u8>, b: Vec<u8>) -> Case {
     let out = match rng.below(150) {
         0 => UNIFY_OUT_BYTES - 1,
         1 => 0,

@@ -17,12 +17,19 @@ pub(crate) const SHOWN: usize = 3;
 
 /// What a call left.
 #[derive(PartialEq, Eq, Clone)]
-struct Settled {
-    number: u32,
-    first: u64,
-    second: u64,
+pub(crate) struct Settled {
+    pub number: u32,
+    pub first: u64,
+    pub second: u64,
     work: Vec<u8>,
     out: Vec<u8>,
+}
+
+impl Settled {
+    /// The lent output.
+    pub fn out_mut(&mut self) -> &mut [u8] {
+        inside(&mut self.out)
+    }
 }
 
 /// A buffer with edges, filled with a pattern of its own.
@@ -53,7 +60,7 @@ fn settle_sheet(call: SheetCall, sheet: &[u8], work: usize, out: usize) -> Settl
 }
 
 /// Runs a unify call on lent buffers.
-fn settle_pair(call: UnifyCall, a: &[u8], b: &[u8], work: usize, out: usize) -> Settled {
+pub(crate) fn settle_pair(call: UnifyCall, a: &[u8], b: &[u8], work: usize, out: usize) -> Settled {
     let (mut work, mut out) = (lent(work, 1), lent(out, 2));
     let (number, first, second) = call(a, b, inside(&mut work), inside(&mut out));
     Settled {
@@ -207,7 +214,7 @@ impl Run {
         if let Some((expected, actual)) = self.library.both(case) {
             show_settled("reference", &expected);
             show_settled("library", &actual);
-            show_buffers(&expected, &actual);
+            show_buffers(["reference", "library"], &expected, &actual);
         }
     }
 
@@ -256,7 +263,7 @@ pub fn show_sheet(sheet: &[u8]) {
     println!("{}", sheet.escape_ascii().to_string().replace("\\n", "\n"));
 }
 
-fn show_settled(who: &str, settled: &Settled) {
+pub(crate) fn show_settled(who: &str, settled: &Settled) {
     println!(
         "{who}: number {}, returned {} and {}",
         settled.number, settled.first, settled.second
@@ -264,7 +271,7 @@ fn show_settled(who: &str, settled: &Settled) {
 }
 
 /// Prints where each buffer differs first, and what stands around there, the lent buffer's edges included.
-fn show_buffers(expected: &Settled, actual: &Settled) {
+pub(crate) fn show_buffers(who: [&str; 2], expected: &Settled, actual: &Settled) {
     for (name, x, y) in [
         ("work area", &expected.work, &actual.work),
         ("output", &expected.out, &actual.out),
@@ -276,8 +283,8 @@ fn show_buffers(expected: &Settled, actual: &Settled) {
                 x.len() - 2 * EDGE
             );
             let around = at.saturating_sub(20)..(at + 60).min(x.len());
-            println!("  reference: {}", x[around.clone()].escape_ascii());
-            println!("  library:   {}", y[around].escape_ascii());
+            println!("  {}: {}", who[0], x[around.clone()].escape_ascii());
+            println!("  {}: {}", who[1], y[around].escape_ascii());
         }
     }
 }

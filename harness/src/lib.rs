@@ -5,6 +5,7 @@ pub mod bench;
 pub mod calls;
 pub mod cases;
 pub mod differential;
+pub mod exchange;
 pub mod external;
 pub mod facts;
 pub mod generate;

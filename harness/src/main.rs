@@ -1,7 +1,7 @@
 //! The commands of the harness; README.md tells of each.
 
 use cyrs_harness::differential::{self, Library};
-use cyrs_harness::{bench, external, facts, self_check, vectors};
+use cyrs_harness::{bench, exchange, external, facts, library, self_check, vectors};
 use std::env;
 use std::path::Path;
 use std::process::ExitCode;
@@ -9,6 +9,7 @@ use std::process::ExitCode;
 const USAGE: &str = "usage:
   cyrs-harness N [SEED]                  compare the linked library on all fixed and N random cases
   cyrs-harness quick                     the same with 40,000 cases, after a short check of the reference
+  cyrs-harness exchange N [SEED]         unify N pairs without unions in both orders, by the linked library or the reference
   cyrs-harness bench                     measure the linked calls and the reference on the same inputs
   cyrs-harness self N [SEED]             check the reference alone, N rounds
   cyrs-harness vectors DIR               write the fixed answers into DIR
@@ -36,6 +37,10 @@ fn command(args: &[&str]) -> Result<bool, String> {
     match args {
         ["quick"] => quick(),
         ["bench"] => Ok(bench::run()),
+        ["exchange", rest @ ..] => {
+            let (count, seed) = count_and_seed(rest)?;
+            Ok(exchange::run(library::unify_call(), count, seed))
+        }
         ["self", rest @ ..] => {
             let (count, seed) = count_and_seed(rest)?;
             check_reference(count, seed)
@@ -76,7 +81,8 @@ fn compare(count: u64, seed: u64) -> Result<bool, String> {
 }
 
 fn quick() -> Result<bool, String> {
-    Ok(check_reference(5_000, SEED)? && compare(40_000, SEED)?)
+    let exchanged = || exchange::run(library::unify_call(), 20_000, SEED);
+    Ok(check_reference(5_000, SEED)? && compare(40_000, SEED)? && exchanged())
 }
 
 fn check_reference(count: u64, seed: u64) -> Result<bool, String> {

@@ -1,8 +1,9 @@
 //! Checks of the reference alone: the plain form against the one with size tests, reader against printer and table, the
-//! order of types against the order of lines, and demand 3 over lists of rewordings.
+//! order of types against the order of lines, demand 3 over lists of rewordings, and unification from either side.
 
-use crate::calls::sheet_report;
+use crate::calls::{sheet_report, unify_call};
 use crate::cases::random_sheet;
+use crate::exchange::{agrees, exchange_case};
 use crate::generate::rewording::{reword, Kind, KINDS};
 use crate::generate::sheets::{small_tree, tree};
 use crate::generate::tree::Tree;
@@ -30,6 +31,8 @@ pub struct Seen {
     pub middles_refused: u64,
     pub accepted_around_refused: u64,
     pub steps: [u64; 6],
+    /// Pairs without unions that agree in both orders, by number.
+    pub exchanged: [u64; 10],
 }
 
 /// Runs `count` rounds from a seed; the first thing that is wrong as an error.
@@ -41,7 +44,8 @@ pub fn run(count: u64, seed: u64) -> Result<Seen, String> {
         let mut rng = Random::new(one);
         let round = check_sheet(&random_sheet(&mut rng), &mut seen)
             .and_then(|()| check_pair(&mut rng, &mut seen))
-            .and_then(|()| check_chain(&mut rng, &mut seen));
+            .and_then(|()| check_chain(&mut rng, &mut seen))
+            .and_then(|()| check_exchange(&mut rng, &mut seen));
         round.map_err(|e| format!("seed {one}: {e}"))?;
         if (i + 1) % 50_000 == 0 {
             println!("{} of {count}, {} s", i + 1, start.elapsed().as_secs());
@@ -133,6 +137,15 @@ fn check_pair(rng: &mut Random, seen: &mut Seen) -> Result<(), String> {
             return Err(format!("no type line, but read as one: {}", shown(&text)));
         }
     }
+    Ok(())
+}
+
+/// The unify call from either side (02, ask 7).
+fn check_exchange(rng: &mut Random, seen: &mut Seen) -> Result<(), String> {
+    let case = exchange_case(rng);
+    let number = agrees(unify_call, &case)
+        .ok_or_else(|| format!("the two orders of a pair do not agree: {case:?}"))?;
+    seen.exchanged[number as usize] += 1;
     Ok(())
 }
 

@@ -10,3 +10,4 @@ pub mod sheets;
 pub mod table;
 pub mod tree;
 pub mod types;
+pub mod union_free;
