@@ -1,12 +1,17 @@
 //! Links the static library named by CYRS_LIB, if it is set, and tells the harness which of the calls it exports.
 //!
-//! CYRS_LIB: the path of the archive (libcyrs.a). CYRS_CALLS: the calls in it, some of `cyrs_unify`, `cyrs_infer_types`
-//! and `cyrs_check_sheet` with commas between; the first two if it is not set.
+//! CYRS_LIB: the path of the archive (libcyrs.a). CYRS_CALLS: the calls in it, some of [`CALLS`] with commas between; the
+//! first two if it is not set.
 
 use std::env;
 use std::path::Path;
 
-const CALLS: [&str; 3] = ["cyrs_unify", "cyrs_infer_types", "cyrs_check_sheet"];
+const CALLS: &[&str] = &[
+    "cyrs_unify",
+    "cyrs_infer_types",
+    "cyrs_check_sheet",
+    "cyrs_regular_line",
+];
 
 fn main() {
     println!("cargo:rerun-if-env-changed=CYRS_LIB");

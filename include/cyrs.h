@@ -8,6 +8,7 @@
  *   3  a line is badly written, 4 out of range, 5 nested too deep, 6 a type is too large, 7 `out` is too short, 8 a text is no type
  *      line: both zeros
  *   9  the types do not unify: the expected and then the actual type line at the front of `out`, the rest as lent, `work` zeros
+ *  12  a text is no old type line: both zeros
  *
  * The slices must not overlap one another.
  */
@@ -35,6 +36,12 @@ uint32_t cyrs_infer_types(const uint8_t *sheet, size_t sheet_len, uint8_t *work,
 /* Reads a sheet and types nothing: 0, or the refusal 1, 3, 4 or 5 that cyrs_infer_types would give. It is lent no buffer.
  * 3, 4 and 5: *place is the line, from 1. Otherwise it is 0. */
 uint32_t cyrs_check_sheet(const uint8_t *sheet, size_t sheet_len, uint64_t *place);
+
+/* Makes an old type line regular: members, labels and map entries in any order, members and labels repeated, unions of any members; up to
+ * 4,096 bytes, nesting at most 32, the names of one map distinct. `out` has 1,024 bytes or more. Causes in the order 2, 7, 12, 6.
+ * 0: *first is the length of the regular type line. Otherwise it is 0. */
+uint32_t cyrs_regular_line(const uint8_t *line, size_t line_len, uint8_t *work, size_t work_len, uint8_t *out, size_t out_len,
+                           uint64_t *first);
 
 #ifdef __cplusplus
 }

@@ -1,11 +1,14 @@
 //! The linked calls against the reference on the same inputs, in one run. Of unification both sides read two type lines and write
-//! one; of validation the library only reads, and the reference's reader makes the statement too; typing is the whole sheet call.
+//! one; of validation the library only reads, and the reference's reader makes the statement too; typing is the whole sheet call; for old type lines see
+//! [`old::bench`].
 
 use crate::calls;
 use crate::generate::sheets::{deep_to, long};
 use crate::generate::tree::{Line, Tree};
-use crate::library::{check_call, sheet_call, unify_call, CheckCall, SheetCall, UnifyCall};
+use crate::library::{check_call, regular_call, sheet_call, unify_call};
+use crate::library::{CheckCall, SheetCall, UnifyCall};
 use crate::limits::{DEPTH, NAME_BYTES, SHEET_BYTES, UNIFY_OUT_BYTES, WORK_BYTES};
+use crate::old;
 use crate::random::Random;
 use crate::reference::stand_ins::SmolStr;
 use crate::reference::ty::Type;
@@ -14,7 +17,7 @@ use crate::type_line::{read_type_line, type_line};
 use std::hint::black_box;
 use std::time::Instant;
 
-const ROUNDS: usize = 25;
+pub(crate) const ROUNDS: usize = 25;
 
 /// Pairs of one kind.
 struct Family {
@@ -97,7 +100,7 @@ fn families() -> Vec<Family> {
 }
 
 /// The least nanoseconds an input took over the rounds of `repeat` turns.
-fn nanoseconds<T>(inputs: &[T], repeat: usize, mut call: impl FnMut(&T)) -> f64 {
+pub(crate) fn nanoseconds<T>(inputs: &[T], repeat: usize, mut call: impl FnMut(&T)) -> f64 {
     let mut least = f64::MAX;
     for _ in 0..ROUNDS {
         let start = Instant::now();
@@ -131,7 +134,11 @@ pub fn run() -> bool {
     if let Some(linked) = sheet {
         typing(linked);
     }
-    let any = unify.is_some() || check.is_some() || sheet.is_some();
+    let regular = regular_call();
+    if let Some(linked) = regular {
+        old::bench::run(linked);
+    }
+    let any = unify.is_some() || check.is_some() || sheet.is_some() || regular.is_some();
     if !any {
         println!("no library is linked (CYRS_LIB was not set at build time): nothing measured");
     }

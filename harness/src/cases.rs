@@ -52,7 +52,7 @@ pub fn check_sheet(rng: &mut Random) -> Vec<u8> {
     }
 }
 
-fn work_length(rng: &mut Random) -> usize {
+pub(crate) fn work_length(rng: &mut Random) -> usize {
     match rng.below(200) {
         0 => 0,
         1 => WORK_BYTES - 1,

@@ -1,9 +1,10 @@
 //! The comparison of the static library with the reference: number, returned numbers, and every byte of both buffers and
-//! around them; validation by [`validation`].
+//! around them; old lines by [`old::compare`], validation by [`validation`].
 
 use crate::calls;
 use crate::cases::{fixed_pair_cases, fixed_sheet_cases, pair_case, sheet_case, Case};
-use crate::library::{CheckCall, SheetCall, UnifyCall};
+use crate::library::{CheckCall, RegularCall, SheetCall, UnifyCall};
+use crate::old;
 use crate::random::Random;
 use crate::shrink::smallest;
 use crate::validation;
@@ -30,6 +31,12 @@ impl Settled {
     pub fn out_mut(&mut self) -> &mut [u8] {
         inside(&mut self.out)
     }
+
+    /// The front of the output, as long as the first returned number says.
+    pub fn written(&self) -> &[u8] {
+        let lent = &self.out[EDGE..self.out.len() - EDGE];
+        &lent[..lent.len().min(self.first as usize)]
+    }
 }
 
 /// A buffer with edges, filled with a pattern of its own.
@@ -46,23 +53,14 @@ fn inside(bytes: &mut [u8]) -> &mut [u8] {
     &mut bytes[EDGE..end]
 }
 
-/// Runs a sheet call on lent buffers.
-fn settle_sheet(call: SheetCall, sheet: &[u8], work: usize, out: usize) -> Settled {
+/// Runs a call on lent buffers of these lengths, a work area and an output.
+pub(crate) fn settle(
+    work: usize,
+    out: usize,
+    call: impl FnOnce(&mut [u8], &mut [u8]) -> (u32, u64, u64),
+) -> Settled {
     let (mut work, mut out) = (lent(work, 1), lent(out, 2));
-    let (number, first) = call(sheet, inside(&mut work), inside(&mut out));
-    Settled {
-        number,
-        first,
-        second: 0,
-        work,
-        out,
-    }
-}
-
-/// Runs a unify call on lent buffers.
-pub(crate) fn settle_pair(call: UnifyCall, a: &[u8], b: &[u8], work: usize, out: usize) -> Settled {
-    let (mut work, mut out) = (lent(work, 1), lent(out, 2));
-    let (number, first, second) = call(a, b, inside(&mut work), inside(&mut out));
+    let (number, first, second) = call(inside(&mut work), inside(&mut out));
     Settled {
         number,
         first,
@@ -72,11 +70,25 @@ pub(crate) fn settle_pair(call: UnifyCall, a: &[u8], b: &[u8], work: usize, out:
     }
 }
 
+/// Runs a sheet call on lent buffers.
+fn settle_sheet(call: SheetCall, sheet: &[u8], work: usize, out: usize) -> Settled {
+    settle(work, out, |work, out| {
+        let (number, first) = call(sheet, work, out);
+        (number, first, 0)
+    })
+}
+
+/// Runs a unify call on lent buffers.
+pub(crate) fn settle_pair(call: UnifyCall, a: &[u8], b: &[u8], work: usize, out: usize) -> Settled {
+    settle(work, out, |work, out| call(a, b, work, out))
+}
+
 /// The library's calls that are compared.
 #[derive(Clone, Copy)]
 pub struct Library {
     pub sheet: Option<SheetCall>,
     pub unify: Option<UnifyCall>,
+    pub regular: Option<RegularCall>,
     pub check: Option<CheckCall>,
 }
 
@@ -85,15 +97,16 @@ impl Library {
         Library {
             sheet: crate::library::sheet_call(),
             unify: crate::library::unify_call(),
+            regular: crate::library::regular_call(),
             check: crate::library::check_call(),
         }
     }
 
     pub fn is_empty(&self) -> bool {
-        self.has_no_cases() && self.check.is_none()
+        self.has_no_cases() && self.regular.is_none() && self.check.is_none()
     }
 
-    /// Whether there is at most validation, which has no buffers.
+    /// Whether there is at most what has a comparison of its own: old lines, and validation, which has no buffers.
     fn has_no_cases(&self) -> bool {
         self.sheet.is_none() && self.unify.is_none()
     }
@@ -132,10 +145,12 @@ impl Library {
     }
 }
 
-/// Compares each call on all its fixed inputs and on `count` random ones, which the calls with buffers share; true if
-/// nothing differs.
+/// Compares each call on all its fixed inputs and on `count` random ones, which sheets and pairs share; true if nothing
+/// differs.
 pub fn run(library: Library, count: u64, seed: u64) -> bool {
     let cases = library.has_no_cases() || run_cases(library, count, seed);
+    let regular = |call| old::compare::run(call, count, seed);
+    let cases = library.regular.is_none_or(regular) && cases;
     let check = |call| validation::run(call, count, seed);
     library.check.is_none_or(check) && cases
 }

@@ -12,6 +12,7 @@ pub mod generate;
 pub mod library;
 pub mod limited;
 pub mod limits;
+pub mod old;
 pub mod random;
 pub mod reference;
 pub mod report;

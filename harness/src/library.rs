@@ -1,7 +1,7 @@
 //! The static library's calls in safe wrappers, for those that are linked (build.rs). A slice goes over as its address
 //! and its length, a returned number by address.
 
-#[cfg(any(cyrs_unify, cyrs_infer_types, cyrs_check_sheet))]
+#[cfg(any(cyrs_unify, cyrs_infer_types, cyrs_regular_line, cyrs_check_sheet))]
 mod linked {
     extern "C" {
         #[cfg(cyrs_unify)]
@@ -29,6 +29,17 @@ mod linked {
             first: *mut u64,
         ) -> u32;
 
+        #[cfg(cyrs_regular_line)]
+        pub fn cyrs_regular_line(
+            line: *const u8,
+            line_len: usize,
+            work: *mut u8,
+            work_len: usize,
+            out: *mut u8,
+            out_len: usize,
+            first: *mut u64,
+        ) -> u32;
+
         #[cfg(cyrs_check_sheet)]
         pub fn cyrs_check_sheet(sheet: *const u8, sheet_len: usize, place: *mut u64) -> u32;
     }
@@ -39,6 +50,9 @@ pub type SheetCall = fn(&[u8], &mut [u8], &mut [u8]) -> (u32, u64);
 
 /// A call on two texts: number, first and second returned number.
 pub type UnifyCall = fn(&[u8], &[u8], &mut [u8], &mut [u8]) -> (u32, u64, u64);
+
+/// A call on an old type line: number and first returned number.
+pub type RegularCall = fn(&[u8], &mut [u8], &mut [u8]) -> (u32, u64);
 
 /// Validation of a sheet: number and place.
 pub type CheckCall = fn(&[u8]) -> (u32, u64);
@@ -59,6 +73,14 @@ pub fn unify_call() -> Option<UnifyCall> {
     None
 }
 
+/// The linked `cyrs_regular_line`, if there is one.
+pub fn regular_call() -> Option<RegularCall> {
+    #[cfg(cyrs_regular_line)]
+    return Some(regular_line);
+    #[cfg(not(cyrs_regular_line))]
+    None
+}
+
 /// The linked `cyrs_check_sheet`, if there is one.
 pub fn check_call() -> Option<CheckCall> {
     #[cfg(cyrs_check_sheet)]
@@ -68,7 +90,7 @@ pub fn check_call() -> Option<CheckCall> {
 }
 
 /// What a returned number holds before the call, so that one that is never written shows.
-#[cfg(any(cyrs_unify, cyrs_infer_types, cyrs_check_sheet))]
+#[cfg(any(cyrs_unify, cyrs_infer_types, cyrs_regular_line, cyrs_check_sheet))]
 const UNSET: u64 = 0xdead_beef_dead_beef;
 
 #[cfg(cyrs_infer_types)]
@@ -110,6 +132,24 @@ fn unify(a: &[u8], b: &[u8], work: &mut [u8], out: &mut [u8]) -> (u32, u64, u64)
         )
     };
     (number, first, second)
+}
+
+#[cfg(cyrs_regular_line)]
+fn regular_line(line: &[u8], work: &mut [u8], out: &mut [u8]) -> (u32, u64) {
+    let mut first = UNSET;
+    // SAFETY: as above.
+    let number = unsafe {
+        linked::cyrs_regular_line(
+            line.as_ptr(),
+            line.len(),
+            work.as_mut_ptr(),
+            work.len(),
+            out.as_mut_ptr(),
+            out.len(),
+            &mut first,
+        )
+    };
+    (number, first)
 }
 
 #[cfg(cyrs_check_sheet)]

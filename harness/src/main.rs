@@ -1,15 +1,16 @@
 //! The commands of the harness; README.md tells of each.
 
 use cyrs_harness::differential::{self, Library};
-use cyrs_harness::{bench, exchange, external, facts, library, self_check, vectors};
+use cyrs_harness::{bench, exchange, external, facts, library, old, self_check, vectors};
 use std::env;
 use std::path::Path;
 use std::process::ExitCode;
 
 const USAGE: &str = "usage:
   cyrs-harness N [SEED]                  compare the linked library on all fixed and N random cases
-  cyrs-harness quick                     the same with 40,000 cases, after a short check of the reference
+  cyrs-harness old N [SEED]              the same for old type lines alone
   cyrs-harness exchange N [SEED]         unify N pairs without unions in both orders, by the linked library or the reference
+  cyrs-harness quick                     all of it with 40,000 cases, after a short check of the reference
   cyrs-harness bench                     measure the linked calls and the reference on the same inputs
   cyrs-harness self N [SEED]             check the reference alone, N rounds
   cyrs-harness vectors DIR               write the fixed answers into DIR
@@ -40,6 +41,10 @@ fn command(args: &[&str]) -> Result<bool, String> {
         ["exchange", rest @ ..] => {
             let (count, seed) = count_and_seed(rest)?;
             Ok(exchange::run(library::unify_call(), count, seed))
+        }
+        ["old", rest @ ..] => {
+            let (count, seed) = count_and_seed(rest)?;
+            Ok(compare_old(count, seed))
         }
         ["self", rest @ ..] => {
             let (count, seed) = count_and_seed(rest)?;
@@ -80,6 +85,14 @@ fn compare(count: u64, seed: u64) -> Result<bool, String> {
     Ok(differential::run(library, count, seed))
 }
 
+fn compare_old(count: u64, seed: u64) -> bool {
+    let Some(call) = library::regular_call() else {
+        println!("cyrs_regular_line is not linked (CYRS_LIB, CYRS_CALLS at build time): nothing compared");
+        return true;
+    };
+    old::compare::run(call, count, seed)
+}
+
 fn quick() -> Result<bool, String> {
     let exchanged = || exchange::run(library::unify_call(), 20_000, SEED);
     Ok(check_reference(5_000, SEED)? && compare(40_000, SEED)? && exchanged())
@@ -110,5 +123,7 @@ fn write_vectors(folder: &str) -> Result<bool, String> {
     let (sheets, pairs) =
         vectors::write(Path::new(folder)).map_err(|e| format!("{folder}: {e}"))?;
     println!("{sheets} sheets and {pairs} pairs written");
+    let lines = old::vectors::write(Path::new(folder)).map_err(|e| format!("{folder}: {e}"))?;
+    println!("{lines} old type lines written");
     Ok(true)
 }

@@ -40,6 +40,13 @@ impl Random {
         &list[self.below(list.len())]
     }
 
+    /// Puts the list into any order.
+    pub fn shuffle<T>(&mut self, list: &mut [T]) {
+        for i in (1..list.len()).rev() {
+            list.swap(i, self.below(i + 1));
+        }
+    }
+
     /// A place of a list of weights, by weight.
     pub fn weighted(&mut self, weights: &[u32]) -> usize {
         let total: usize = weights.iter().map(|&w| w as usize).sum();

@@ -1,5 +1,5 @@
 //! Checks of the reference alone: the plain form against the one with size tests, reader against printer and table, the
-//! order of types against the order of lines, demand 3 over lists of rewordings, and unification from either side.
+//! order of types against the order of lines, demand 3 over lists of rewordings, unification from either side, and old lines.
 
 use crate::calls::{sheet_report, unify_call};
 use crate::cases::random_sheet;
@@ -10,6 +10,7 @@ use crate::generate::tree::Tree;
 use crate::generate::types::{text_pair, type_pair};
 use crate::limited::size::fits;
 use crate::limited::unify::{unify as limited_unify, Stop};
+use crate::old;
 use crate::random::Random;
 use crate::reference::unify::unify;
 use crate::report::{plain_faults, plain_report};
@@ -33,6 +34,7 @@ pub struct Seen {
     pub steps: [u64; 6],
     /// Pairs without unions that agree in both orders, by number.
     pub exchanged: [u64; 10],
+    pub old: old::self_check::Seen,
 }
 
 /// Runs `count` rounds from a seed; the first thing that is wrong as an error.
@@ -45,7 +47,8 @@ pub fn run(count: u64, seed: u64) -> Result<Seen, String> {
         let round = check_sheet(&random_sheet(&mut rng), &mut seen)
             .and_then(|()| check_pair(&mut rng, &mut seen))
             .and_then(|()| check_chain(&mut rng, &mut seen))
-            .and_then(|()| check_exchange(&mut rng, &mut seen));
+            .and_then(|()| check_exchange(&mut rng, &mut seen))
+            .and_then(|()| old::self_check::round(&mut rng, &mut seen.old));
         round.map_err(|e| format!("seed {one}: {e}"))?;
         if (i + 1) % 50_000 == 0 {
             println!("{} of {count}, {} s", i + 1, start.elapsed().as_secs());

@@ -21,7 +21,7 @@ pub fn smallest_sheet(sheet: Vec<u8>, mut differs: impl FnMut(&[u8]) -> bool) ->
     search(sheet, |s| smaller_sheets(s), Vec::len, |s| differs(s))
 }
 
-fn search<T>(
+pub(crate) fn search<T>(
     first: T,
     smaller: for<'a> fn(&'a T) -> Box<dyn Iterator<Item = T> + 'a>,
     weight: fn(&T) -> usize,
@@ -73,7 +73,7 @@ pub(crate) fn smaller(case: &Case) -> Box<dyn Iterator<Item = Case> + '_> {
 }
 
 /// What to take away of so many things: all, halves, quarters, and so on down to single ones.
-fn ranges(len: usize) -> impl Iterator<Item = Range<usize>> {
+pub(crate) fn ranges(len: usize) -> impl Iterator<Item = Range<usize>> {
     let sizes = successors(Some(len), |n| Some(n / 2)).take_while(|&n| n > 0);
     sizes.flat_map(move |size| {
         let starts = (0..len).step_by(size);
@@ -82,7 +82,7 @@ fn ranges(len: usize) -> impl Iterator<Item = Range<usize>> {
 }
 
 /// Parts of the text taken away.
-fn cut(text: &[u8]) -> impl Iterator<Item = Vec<u8>> + '_ {
+pub(crate) fn cut(text: &[u8]) -> impl Iterator<Item = Vec<u8>> + '_ {
     ranges(text.len()).map(|r| [&text[..r.start], &text[r.end..]].concat())
 }
 

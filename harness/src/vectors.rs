@@ -1,5 +1,5 @@
 //! Fixed answers of the reference in two text files, which a program with no Rust at hand can replay. The form is told in
-//! vectors/README.md.
+//! vectors/README.md; the file of old type lines is made in old/vectors.rs.
 
 use crate::calls::{sheet_call, sheet_report, unify_call};
 use crate::cases::{fixed_pair_cases, fixed_sheet_cases, out_length, small_sheet, Case};
@@ -20,15 +20,17 @@ const SEED: u64 = 1_100;
 /// Longest random sheet among them, in bytes.
 const RANDOM_SHEET_BYTES: usize = 2_000;
 
-/// Whether the case's texts are printable ASCII and LF.
+/// Whether a text is printable ASCII and LF.
+pub(crate) fn is_plain_text(text: &[u8]) -> bool {
+    text.iter()
+        .all(|&b| b == b'\n' || (b' '..=b'~').contains(&b))
+}
+
+/// Whether the case's texts are.
 fn is_plain(case: &Case) -> bool {
-    let plain = |text: &[u8]| {
-        text.iter()
-            .all(|&b| b == b'\n' || (b' '..=b'~').contains(&b))
-    };
     match case {
-        Case::Sheet { sheet, .. } => plain(sheet),
-        Case::Pair { a, b, .. } => plain(a) && plain(b),
+        Case::Sheet { sheet, .. } => is_plain_text(sheet),
+        Case::Pair { a, b, .. } => is_plain_text(a) && is_plain_text(b),
     }
 }
 
@@ -249,7 +251,7 @@ fn stored(number: u64, first: u64, second: u64, output: Vec<u8>) -> Answer {
 }
 
 /// So many bytes and the LF behind them.
-fn take(rest: &mut &[u8], len: u64) -> Option<Vec<u8>> {
+pub(crate) fn take(rest: &mut &[u8], len: u64) -> Option<Vec<u8>> {
     let len = len as usize;
     if rest.len() <= len || rest[len] != b'\n' {
         return None;

@@ -5,7 +5,8 @@ use cyrs_harness::cases::Case;
 use cyrs_harness::differential::{run, Library};
 use cyrs_harness::generate::sheets::tree;
 use cyrs_harness::generate::tree::{Line, Tree};
-use cyrs_harness::library::{CheckCall, SheetCall, UnifyCall};
+use cyrs_harness::library::{CheckCall, RegularCall, SheetCall, UnifyCall};
+use cyrs_harness::old::call::regular_call;
 use cyrs_harness::random::Random;
 use cyrs_harness::shrink::{smallest, smallest_sheet};
 use cyrs_harness::{calls, limits};
@@ -23,6 +24,7 @@ fn linked_library() {
 const NONE: Library = Library {
     sheet: None,
     unify: None,
+    regular: None,
     check: None,
 };
 
@@ -35,6 +37,7 @@ fn a_faulty_library_shows() {
     let library = Library {
         sheet: Some(good),
         unify: Some(pairs),
+        regular: Some(regular_call),
         check: Some(check),
     };
     assert!(run(library, 300, 4));
@@ -56,6 +59,15 @@ fn a_faulty_library_shows() {
     };
     let library = Library {
         unify: Some(faulty),
+        ..NONE
+    };
+    assert!(!run(library, 300, 4));
+    let faulty: RegularCall = |line, work, out| {
+        let (number, first) = regular_call(line, work, out);
+        (number, first + u64::from(number == 12))
+    };
+    let library = Library {
+        regular: Some(faulty),
         ..NONE
     };
     assert!(!run(library, 300, 4));

@@ -1,5 +1,8 @@
 //! The stored answers are the reference's, and are what the command writes.
 
+use cyrs_harness::limits::WORK_BYTES;
+use cyrs_harness::old::vectors as old;
+use cyrs_harness::old::vectors::OLD_FILE;
 use cyrs_harness::vectors::{answer, file_text, read, PAIRS_FILE, SHEETS_FILE};
 use std::collections::BTreeSet;
 use std::fs;
@@ -26,12 +29,12 @@ fn replay(file: &str) -> BTreeSet<u32> {
     numbers
 }
 
-/// The program `replay` has no file to open: it is fed both.
+/// The program `replay` has no file to open: it is fed all, one behind the other.
 #[test]
 fn replay_input() {
     let path = Path::new(env!("CARGO_MANIFEST_DIR")).join("../crates/replay/stdin");
     let input = fs::read(&path).unwrap_or_else(|e| panic!("{}: {e}", path.display()));
-    assert!(input == [stored(SHEETS_FILE), stored(PAIRS_FILE)].concat());
+    assert!(input == [SHEETS_FILE, PAIRS_FILE, OLD_FILE].map(stored).concat());
 }
 
 #[test]
@@ -44,4 +47,20 @@ fn sheets() {
 fn pairs() {
     let numbers: Vec<u32> = replay(PAIRS_FILE).into_iter().collect();
     assert_eq!(numbers, [0, 2, 6, 7, 8, 9]);
+}
+
+#[test]
+fn old_lines() {
+    let text = stored(OLD_FILE);
+    let cases = old::read(&text).expect("the form of old lines");
+    let mut numbers = BTreeSet::new();
+    for (i, (case, expected)) in cases.iter().enumerate() {
+        assert_eq!(old::answer(case), *expected, "{OLD_FILE}, case {i}");
+        assert!(case.work <= WORK_BYTES + 1 && case.out <= WORK_BYTES);
+        numbers.insert(expected.case_number);
+    }
+    let cases: Vec<_> = cases.into_iter().map(|c| c.0).collect();
+    assert!(cases == old::old_cases() && old::file_text(&cases) == text);
+    assert!(text.len() < 300_000);
+    assert_eq!(numbers.into_iter().collect::<Vec<_>>(), [0, 2, 6, 7, 12]);
 }

@@ -5,6 +5,7 @@ mod unifying;
 
 ghost use mathlib.Core.Path.{_≡_};
 ghost use Rattle.semantics.specs.Calls.{sheetCall, unifyCall};
+ghost use Rattle.old.specs.Old.{regularCall};
 ghost use Rattle.cyrs.specs.Call.{settledBy};
 ghost use Rattle.cyrs.specs.Checking.{checkedBy, checkCall};
 pub use checking::Checked;
@@ -55,5 +56,21 @@ pub extern "C" fn cyrs_check_sheet(sheet: &[u8], place: &mut u64) -> u32
 {
     let c = check_sheet(sheet);
     *place = c.place;
+    c.number
+}
+
+// Makes an old type line regular: the number, and the regular line's length behind the reference.
+#[no_mangle]
+pub extern "C" fn cyrs_regular_line(
+    line: &[u8],
+    work: &mut [u8],
+    out: &mut [u8],
+    first: &mut u64,
+) -> u32
+    ensures { λ r. ⌜ settledBy r (now (first .exit)) 0 (now (work .exit)) (now (out .exit))
+        ≡ regularCall (now (line .entry)) (now (work .entry)) (now (out .entry)) ⌝ }
+{
+    let c = old::regular_line(line, work, out);
+    *first = c.first;
     c.number
 }

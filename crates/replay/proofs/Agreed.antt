@@ -1,5 +1,5 @@
 -- A call's answer beside the stored one. Assumes nothing.
-use mathlib.Core.Path.{_≡_, refl, sym, ap, _∙_}
+use mathlib.Core.Path.{_≡_, refl, ap, ap₂, _∙_}
 use mathlib.Core.Bool.{Bool, true, false}
 use Prim.Native.Nat.{ℕ}
 use lib.Dec.{eqb}
@@ -10,6 +10,7 @@ use Rattle.semantics.specs.Calls.{Settled}
 use Rattle.cyrs.specs.Call.{settledBy}
 use Rattle.cyrs.specs.declared.unifying.Call.{Call}
 use Rattle.replay.specs.declared.Want.{Want}
+use Rattle.replay.specs.declared.Verdict.{Verdict}
 use Rattle.replay.specs.declared.Verdict.the-variants.{Same, Differs}
 use Rattle.replay.specs.Judged.{Decides, Judges}
 use Rattle.replay.specs.Stored.{filled, workByte, outByte, Answers, storedBy}
@@ -32,25 +33,30 @@ last-decides c want n f = go (eqb (c .second) (want .second)) refl
     go true e = holds (record { number = n; first = f; second = eqb-true _ _ e })
     go false e = fails λ a. eqb-false _ _ e (a .second)
 
--- ## A call, by what its definition gives
+-- ## What a call left, beside the stored case
 
-module _ (U : Settled) (work out work′ out′ expected : Bytes) (c : Call) (want : Want) (told : settledBy (c .number) (c .first) (c .second) work′ out′ ≡ U) where
+module _ (work out expected : Bytes) (c : Call) (want : Want) where
   abbrev Stored : Type 0
-  Stored = U ≡ storedBy want (length work) (length out) expected
+  Stored = settledBy (c .number) (c .first) (c .second) work out ≡ storedBy want (length work) (length out) expected
 
   abbrev Left : Type 0
-  Left = (work′ ≡ replicate (length work′) (workByte (c .number))) × (out′ ≡ filled expected (length out′) (outByte (c .number)))
+  Left = (work ≡ replicate (length work) (workByte (c .number))) × (out ≡ filled expected (length out) (outByte (c .number)))
 
   numbers : Stored → Answers c want
-  numbers e = record { number = ap (λ (x : Settled). x .number) (told ∙ e); first = ap (λ (x : Settled). x .first) (told ∙ e); second = ap (λ (x : Settled). x .second) (told ∙ e) }
+  numbers e = record { number = ap (λ (x : Settled). x .number) e; first = ap (λ (x : Settled). x .first) e; second = ap (λ (x : Settled). x .second) e }
 
   pub numbers-differ : (Answers c want → ⊥) → Judges Differs Stored
   numbers-differ d = differs λ e. d (numbers e)
 
-  module _ (w : length work′ ≡ length work) (o : length out′ ≡ length out) (n : Answers c want) where
-    pub left-same : Left → Judges Same Stored
-    left-same (l, r) = same (sym told ∙ rw (l, r, w, o, n .number, n .first, n .second))
+  pub left-same : Answers c want → Left → Judges Same Stored
+  left-same n (l, r) = same (ap₂ (λ (x y : Bytes). settledBy (c .number) (c .first) (c .second) x y) l r ∙ rw (n .number, n .first, n .second))
 
-    pub left-differs : (Left → ⊥) → Judges Differs Stored
-    left-differs d =
-        differs λ e. d (rw (w, n .number) (ap (λ (x : Settled). x .work) (told ∙ e)), rw (o, n .number) (ap (λ (x : Settled). x .out) (told ∙ e)))
+  pub left-differs : Answers c want → (Left → ⊥) → Judges Differs Stored
+  left-differs n d = differs λ e. d (rw (n .number) (ap (λ (x : Settled). x .work) e), rw (n .number) (ap (λ (x : Settled). x .out) e))
+
+-- the call's definition gives what it left, and the buffers kept their lengths
+pub told : {v : Verdict} {U : Settled} {c : Call} {want : Want} (w o e w′ o′ : Bytes) → settledBy (c .number) (c .first) (c .second) w′ o′ ≡ U → length w′ ≡ length w
+    → length o′ ≡ length o
+    → Judges v (settledBy (c .number) (c .first) (c .second) w′ o′ ≡ storedBy want (length w′) (length o′) e)
+    → Judges v (U ≡ storedBy want (length w) (length o) e)
+told w o e w′ o′ t k l j = rw (t, k, l) at j

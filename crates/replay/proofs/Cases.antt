@@ -3,7 +3,7 @@ use mathlib.Core.Path.{_≡_, refl}
 use mathlib.Core.Bool.{Bool, true, false}
 use Prim.Native.Nat.{ℕ, _≤_, _<_}
 use native.Mathlib.Omega.{arith}
-use borrow.Author.Tests.{lt-ltb, le-ltb, le-leb, lt-leb}
+use borrow.Author.Tests.{lt-ltb, le-ltb, le-leb, lt-leb, eq-eqb, ne-eqb}
 use Rattle.replay.specs.Stored.{among, workByte, outByte}
 
 -- ## A number between two
@@ -40,10 +40,14 @@ module _ (n : ℕ) where
   unfolding outByte
   out-cleared l h = rw (inside 3 8 n l (omega arith), outByte)
 
+  pub out-twelve : n ≡ 12 → 0 ≡ outByte n
+  unfolding outByte
+  out-twelve e = rw (above 3 8 n (omega (arith, e)) (omega (arith, e)), eq-eqb n 12 e, outByte)
+
   pub out-low : n < 3 → 187 ≡ outByte n
   unfolding outByte
-  out-low h = rw (below 3 8 n h, outByte)
+  out-low h = rw (below 3 8 n h, ne-eqb n 12 (λ e. omega (arith, e)), outByte)
 
-  pub out-high : 9 ≤ n → 187 ≡ outByte n
+  pub out-high : 9 ≤ n → (n ≡ 12 → ⊥) → 187 ≡ outByte n
   unfolding outByte
-  out-high h = rw (above 3 8 n (omega arith) (omega arith), outByte)
+  out-high h d = rw (above 3 8 n (omega arith) (omega arith), ne-eqb n 12 d, outByte)

@@ -4,14 +4,15 @@ use mathlib.Core.Path.{_≡_}
 use mathlib.Core.List.{_++_}
 use Prim.Native.Nat.{ℕ, _-_}
 use lib.ListN.{length, replicate}
-use lib.Dec.{leb, ltb}
+use lib.Dec.{eqb, leb, ltb}
 use Rattle.semantics.specs.Bytes.{Bytes}
 use Rattle.semantics.specs.Calls.{Settled, sheetCall, unifyCall}
+use Rattle.old.specs.Old.{regularCall}
 use Rattle.cyrs.specs.Call.{settledBy}
 use Rattle.cyrs.specs.declared.unifying.Call.{Call}
 use Rattle.replay.specs.declared.Want.{Want}
 use Rattle.replay.specs.declared.Kind.{Kind}
-use Rattle.replay.specs.declared.Kind.the-variants.{Sheet, Pair}
+use Rattle.replay.specs.declared.Kind.the-variants.{Sheet, Pair, Old}
 
 -- `t`, and then `b` up to `n` bytes
 abbrev pub filled : Bytes → ℕ → ℕ → Bytes
@@ -24,9 +25,9 @@ among lo hi n = elim (ltb n lo) [ true ↦ false | false ↦ leb n hi ]
 unfoldable pub workByte : ℕ → ℕ
 workByte n = elim (among 1 2 n) [ true ↦ 170 | false ↦ 0 ]
 
--- the output's, behind the expected ones: zeros at 3 to 8
+-- the output's, behind the expected ones: zeros at 3 to 8 and 12
 unfoldable pub outByte : ℕ → ℕ
-outByte n = elim (among 3 8 n) [ true ↦ 0 | false ↦ 187 ]
+outByte n = elim (among 3 8 n) [ true ↦ 0 | false ↦ elim (eqb n 12) [ true ↦ 0 | false ↦ 187 ] ]
 
 pub record Answers (c : Call) (want : Want) : Type 0 where
   pub number : c .number ≡ want .number
@@ -40,3 +41,4 @@ storedBy want w o e = settledBy (want .number) (want .first) (want .second) (rep
 abbrev pub Agrees : Kind → Bytes → Bytes → Bytes → Bytes → Want → Bytes → Type 0
 Agrees Sheet a b work out want e = sheetCall a work out ≡ storedBy want (length work) (length out) e
 Agrees Pair a b work out want e = unifyCall a b work out ≡ storedBy want (length work) (length out) e
+Agrees Old a b work out want e = regularCall a work out ≡ storedBy want (length work) (length out) e

@@ -1,10 +1,12 @@
-// Replays the stored calls of harness/vectors, sheets and then pairs, from standard input, and writes one line of counts.
+// Replays the stored calls of harness/vectors, sheets, pairs and old type lines, from standard input, and writes one line of counts.
 use libc::STDIN_FILENO;
 use libc::STDOUT_FILENO;
 ghost use mathlib.Core.Path.{_≡_};
 ghost use Prim.Native.Nat.{_≤_, _<_};
 ghost use lib.ListN.{length, replicate};
 ghost use Rattle.semantics.specs.Calls.{sheetCall, unifyCall};
+ghost use Rattle.old.specs.Old.{regularCall};
+ghost use Rattle.cyrs.specs.Call.{settledBy};
 ghost use Rattle.replay.specs.Judged.{Decides, Judges};
 ghost use Rattle.replay.specs.Stored.{filled, workByte, outByte, Answers, storedBy, Agrees};
 
@@ -14,11 +16,12 @@ const WORK_FILL: u8 = 170;
 const OUT_FILL: u8 = 187;
 
 // Bytes of input, and one more.
-const ROOM: usize = 983040;
+const ROOM: usize = 1310720;
 
 enum Kind {
     Sheet,
     Pair,
+    Old,
 }
 
 enum Verdict {
@@ -219,7 +222,7 @@ fn in_out(number: u32) -> u8
     ensures { λ r. ⌜ r ≡ outByte number ⌝ }
 {
     match number {
-        3..=8 => 0,
+        3..=8 | 12 => 0,
         _ => OUT_FILL,
     }
 }
@@ -247,12 +250,11 @@ fn is_answer(c: cyrs::Call, want: Want) -> bool
     c.second == want.second as u64
 }
 
-// Types a sheet, and says whether the answer and the buffers are as the case says.
-fn infer(sheet: &[u8], work: &mut [u8], out: &mut [u8], want: Want, expected: &[u8]) -> Verdict
-    ensures { λ r. ⌜ Judges r (sheetCall (now (sheet .entry)) (now (work .entry)) (now (out .entry))
+// Whether the answer and the buffers that a call left are as the case says.
+fn judge(c: cyrs::Call, work: &[u8], out: &[u8], want: Want, expected: &[u8]) -> Verdict
+    ensures { λ r. ⌜ Judges r (settledBy (c .number) (c .first) (c .second) (now (work .entry)) (now (out .entry))
         ≡ storedBy want (length (now (work .entry))) (length (now (out .entry))) (now (expected .entry))) ⌝ }
 {
-    let c = cyrs::infer_types(sheet, work, out);
     if !is_answer(c, want) {
         return Verdict::Differs;
     }
@@ -262,7 +264,16 @@ fn infer(sheet: &[u8], work: &mut [u8], out: &mut [u8], want: Want, expected: &[
     Verdict::Differs
 }
 
-// Unifies, likewise.
+// Types a sheet.
+fn infer(sheet: &[u8], work: &mut [u8], out: &mut [u8], want: Want, expected: &[u8]) -> Verdict
+    ensures { λ r. ⌜ Judges r (sheetCall (now (sheet .entry)) (now (work .entry)) (now (out .entry))
+        ≡ storedBy want (length (now (work .entry))) (length (now (out .entry))) (now (expected .entry))) ⌝ }
+{
+    let c = cyrs::infer_types(sheet, work, out);
+    judge(c, work, out, want, expected)
+}
+
+// Unifies.
 fn unify(
     a: &[u8],
     b: &[u8],
@@ -275,16 +286,24 @@ fn unify(
         ≡ storedBy want (length (now (work .entry))) (length (now (out .entry))) (now (expected .entry))) ⌝ }
 {
     let c = cyrs::unify_types(a, b, work, out);
-    if !is_answer(c, want) {
-        return Verdict::Differs;
-    }
-    if is_left(c.number, work, out, expected) {
-        return Verdict::Same;
-    }
-    Verdict::Differs
+    judge(c, work, out, want, expected)
 }
 
-// The call of a case: a sheet is `a`.
+// Makes an old type line regular.
+fn regular(line: &[u8], work: &mut [u8], out: &mut [u8], want: Want, expected: &[u8]) -> Verdict
+    ensures { λ r. ⌜ Judges r (regularCall (now (line .entry)) (now (work .entry)) (now (out .entry))
+        ≡ storedBy want (length (now (work .entry))) (length (now (out .entry))) (now (expected .entry))) ⌝ }
+{
+    let o = old::regular_line(line, work, out);
+    let c = cyrs::Call {
+        number: o.number,
+        first: o.first,
+        second: 0,
+    };
+    judge(c, work, out, want, expected)
+}
+
+// The call of a case: a sheet or an old line is `a`.
 fn call(
     kind: Kind,
     a: &[u8],
@@ -299,6 +318,7 @@ fn call(
     match kind {
         Kind::Sheet => infer(a, work, out, want, expected),
         Kind::Pair => unify(a, b, work, out, want, expected),
+        Kind::Old => regular(a, work, out, want, expected),
     }
 }
 
@@ -324,11 +344,11 @@ fn malformed(at: usize) -> Outcome {
     }
 }
 
-// The sheet at `at`. A malformed part ends at the end of `src`, and so do those behind it.
-fn replay_sheet(src: &[u8], at: usize) -> Outcome
+// The case at `at` of a call that is lent one text. A malformed part ends at the end of `src`, and so do those behind it.
+fn replay_text(src: &[u8], at: usize, letter: u8, kind: Kind) -> Outcome
     requires { ⌜ at ≤ length (now src) ⌝ }
 {
-    let h = read_header(src, at, b'S', 6);
+    let h = read_header(src, at, letter, 6);
     let v = h.values;
     let s = h.next;
     let s_end = part_end(src, s, v[4]);
@@ -342,8 +362,8 @@ fn replay_sheet(src: &[u8], at: usize) -> Outcome
         first: v[1],
         second: 0,
     };
-    let sheet = &src[s..s_end];
-    let verdict = lend(Kind::Sheet, sheet, b"", v[2], v[3], want, &src[e..e_end]);
+    let t = &src[s..s_end];
+    let verdict = lend(kind, t, b"", v[2], v[3], want, &src[e..e_end]);
     Outcome {
         verdict: verdict,
         next: e_end + 1,
@@ -388,10 +408,11 @@ fn replay_pair(src: &[u8], at: usize) -> Outcome
 fn replay_case(src: &[u8], at: usize) -> Outcome
     requires { ⌜ at < length (now src) ⌝ }
 {
-    if src[at] == b'S' {
-        replay_sheet(src, at)
-    } else {
-        replay_pair(src, at)
+    let letter = src[at];
+    match letter {
+        b'S' => replay_text(src, at, letter, Kind::Sheet),
+        b'O' => replay_text(src, at, letter, Kind::Old),
+        _ => replay_pair(src, at),
     }
 }
 

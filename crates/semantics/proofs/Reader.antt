@@ -177,7 +177,7 @@ mutual
 mutual
   unfolding readType readBy onward opening inside
 
-  read-type : (t : Ty) (k : ℕ) (r : List Bytes) → Named t → 2 * length (typeF t r) ≤ k → readType k (typeF t r) ≡ some (t, r)
+  pub read-type : (t : Ty) (k : ℕ) (r : List Bytes) → Named t → 2 * length (typeF t r) ≤ k → readType k (typeF t r) ≡ some (t, r)
   read-type (base b) zero r h l = absurd (omega arith)
   read-type (base b) (suc k) r h l = read-base (λ gs. readType k gs) (λ gs. readEntries k gs) (λ gs. readMembers k gs) b r
   read-type (tList t) zero r h l = absurd (omega arith)
@@ -217,7 +217,7 @@ reads-back t h g s =
 -- ## What is read was written so
 
 -- something read from these fields: written before the fields after it, it gives the fields
-data Reads {A : Type 0} (write : A → List Bytes → List Bytes) (P : A → Type 0) (fs : List Bytes) : Front A → Type 0 where
+pub data Reads {A : Type 0} (write : A → List Bytes → List Bytes) (P : A → Type 0) (fs : List Bytes) : Front A → Type 0 where
   nothing : Reads write P fs none
   reads : {a : A} {r : List Bytes} → write a r ≡ fs → P a → Reads write P fs (some (a, r))
 
@@ -316,7 +316,7 @@ module _ (ty : List Bytes → Front Ty) (es : List Bytes → Front Fields) (ms :
 mutual
   unfolding readType inside
 
-  type-sound : (k : ℕ) (fs : List Bytes) → Reads typeF Named fs (readType k fs)
+  pub type-sound : (k : ℕ) (fs : List Bytes) → Reads typeF Named fs (readType k fs)
   type-sound zero fs = nothing
   type-sound (suc k) [] = nothing
   type-sound (suc k) (f ∷ fs) =

@@ -98,7 +98,7 @@ pub record Turn (b : Bool) (s : Bytes) (k prev q n l : ℕ) (r : Bytes) : Type 0
   pub lead : k ≡ 75 → (m : Bytes) × (drop q s ≡ nameTo m (drop (valueAt k s q) s))
   pub next : (e : ℕ) → e ≤ length s → drop e s ≡ rest → Allows b k s prev q e n × Goes b (n + 1) l (keyOf k s q e) (drop e s) r k
 
-not-closed : (s : Bytes) (q : ℕ) (x : Bytes) → not (fieldAt s q 33) ≡ true → drop q s ≡ 33 ∷ 44 ∷ x → ⊥
+pub not-closed : (s : Bytes) (q : ℕ) (x : Bytes) → not (fieldAt s q 33) ≡ true → drop q s ≡ 33 ∷ 44 ∷ x → ⊥
 not-closed s q x h e = false≢true (sym (not-true (fieldAt s q 33) h) ∙ field-is s q 33 x e)
 
 list-allows : (b : Bool) (s : Bytes) (prev q e n : ℕ) → Allows b 74 s prev q e n
@@ -245,7 +245,7 @@ back s prev q n e t {b} {r} z y x d w i al ld (membs ts f g h) =
 abbrev pub endAt : ℕ → ℕ → ℕ
 endAt k q = cond (eqb k 74) q (q + 2)
 
-closed : (s : Bytes) (q : ℕ) → not (fieldAt s q 33) ≡ false → (drop q s ≡ 33 ∷ 44 ∷ drop (q + 2) s) × (q + 2 ≤ length s)
+pub closed : (s : Bytes) (q : ℕ) → not (fieldAt s q 33) ≡ false → (drop q s ≡ 33 ∷ 44 ∷ drop (q + 2) s) × (q + 2 ≤ length s)
 closed s q h = field-yes s q 33 (not-false (fieldAt s q 33) h)
 
 -- enough parts of a union
@@ -263,12 +263,12 @@ unfolding members
 none-more true n a h = (tt, tt, after-none n a, omega (arith, h refl))
 none-more false n a h = tt
 
-data Four (k : ℕ) : Type 0 where
+pub data Four (k : ℕ) : Type 0 where
   list : k ≡ 74 → Four k
   map′ : k ≡ 75 → Four k
   union : k ≡ 79 → Four k
 
-four : (k : ℕ) → contentOf k ≡ 4 → Four k
+pub four : (k : ℕ) → contentOf k ≡ 4 → Four k
 unfolding contentOf
 four k h = go (eqb k 74) (eqb k 75) (eqb k 76) (eqb k 77) (eqb k 79) (some? (baseIn k bases)) refl refl refl h
   where

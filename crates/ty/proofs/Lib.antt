@@ -4,6 +4,7 @@ pub mod Inner
 pub mod KindLaws
 pub mod LabelLaws
 pub mod Labels
+pub mod Lent
 pub mod Lines
 pub mod LoneLaws
 pub mod Loops

@@ -43,14 +43,14 @@ base-is k (b ∷ bs) = go (eqb k (letter b)) refl (base-is k bs)
     go false e w = rw (e, baseIn) w
 
 -- the letter of a content below 4
-data Holds (k : ℕ) : ℕ → Type 0 where
+pub data Holds (k : ℕ) : ℕ → Type 0 where
   plain : (b : Base) → letter b ≡ k → Holds k 1
   labels : k ≡ 76 → Holds k 2
   name : k ≡ 77 → Holds k 3
   nothing : Holds k 0
   types : Holds k 4
 
-holds : (k : ℕ) → Holds k (contentOf k)
+pub holds : (k : ℕ) → Holds k (contentOf k)
 unfolding contentOf
 holds k = go (eqb k 74) (eqb k 75) (eqb k 76) (eqb k 77) (eqb k 79) (baseIn k bases) refl refl (base-is k bases)
   where

@@ -17,7 +17,7 @@ ghost use Rattle.semantics.specs.Ty.{typeLine};
 ghost use Rattle.ty.specs.Read.{fieldAt, letterAt, contentOf, inOrder, nameIn, keyOf, allowed, endOf, LabelsRead, NodeRead, RelRead, TypeRead};
 
 // Whether [at..end) is a name: pairs of lowercase hexadecimal digits, at most 255 bytes, and a comma behind it.
-fn is_name(s: &[u8], at: usize, end: usize) -> bool
+pub fn is_name(s: &[u8], at: usize, end: usize) -> bool
     requires { ⌜ (at ≤ end) × (end ≤ length (now s)) ⌝ }
     ensures { λ r. ⌜ r ≡ nameIn (now (s .entry)) at end ⌝ }
 {
@@ -118,7 +118,7 @@ fn read_node(s: &[u8], at: usize) -> TypeEnd
 }
 
 // `!,`, or `+,` and a name.
-fn read_relationship(s: &[u8], at: usize) -> TypeEnd
+pub fn read_relationship(s: &[u8], at: usize) -> TypeEnd
     ensures { λ r. ⌜ RelRead (now (s .entry)) at r ⌝ }
 {
     if is_field(s, at, 33) {

@@ -28,7 +28,8 @@ use Rattle.unify.specs.Flat.{SomeOperand, OneAnswer, Written, SomeNodes,
 use Rattle.unify.specs.Steps.{ArmReady, FlatAnswer}
 use Rattle.unify.specs.declared.Unified.{Unified}
 use Rattle.unify.specs.declared.Unified.the-variants.{Done, Mismatch}
-use Rattle.unify.proofs.Operands.{operand-in, below-same, below-sets, written-type, part-long, types-front, putBack, put-below, type-up}
+use Rattle.ty.proofs.Lent.{part-long, types-front, putBack, type-up}
+use Rattle.unify.proofs.Operands.{operand-in, below-same, below-sets, written-type, put-below}
 use Rattle.unify.proofs.ArmLaws.{Nodes, arm-nodes, labelsOf, flatRun, flat-arms, slots-one}
 
 -- ## `tested`

@@ -25,7 +25,8 @@ use Rattle.unify.specs.Work.{Below}
 use Rattle.unify.specs.Made.{SomeUnion, ClosedUnion}
 use Rattle.unify.specs.Flat.{SomeOperand, OneAnswer, withNull, SomeTypes, NullAnswer}
 use Rattle.unify.specs.declared.Unified.{Unified}
-use Rattle.unify.proofs.Operands.{below-same, below-sets, below-then, types-down, types-front, putBack, put-below, types-up}
+use Rattle.ty.proofs.Lent.{types-down, types-front, putBack, types-up}
+use Rattle.unify.proofs.Operands.{below-same, below-sets, below-then, put-below}
 
 -- ## `with_null`
 

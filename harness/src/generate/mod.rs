@@ -4,6 +4,7 @@ pub mod damage;
 pub mod exhaustive;
 pub mod exprs;
 pub mod hostile;
+pub mod old;
 pub mod probes;
 pub mod rewording;
 pub mod sheets;

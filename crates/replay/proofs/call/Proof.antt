@@ -15,6 +15,12 @@ enum-told-2 c = search needs
 unify-requires : tie.Need-unify-requires
 unify-requires c κs = search needs
 
+enum-told-3 : tie.Need-enum-told-3
+enum-told-3 c = search needs
+
+regular-requires : tie.Need-regular-requires
+regular-requires c κs = search needs
+
 same-length : tie.Need-same-length
 same-length c = search needs
 
@@ -33,6 +39,15 @@ same-length-4 c = search needs
 returns-2 : tie.Need-returns-2
 returns-2 c = rw (c .before .before .before .before .before .before .before .enum-told2 .given .1) (c .before .before .before .before .unify .ensures)
 
+same-length-5 : tie.Need-same-length-5
+same-length-5 c = search needs
+
+same-length-6 : tie.Need-same-length-6
+same-length-6 c = search needs
+
+returns-3 : tie.Need-returns-3
+returns-3 c = rw (c .before .before .before .before .before .before .before .enum-told3 .given .1) (c .before .before .before .before .regular .ensures)
+
 pub call-spec : {M : Type 1} → statement M
 call-spec =
     tie.close
@@ -41,9 +56,14 @@ call-spec =
     infer-requires
     enum-told-2
     unify-requires
+    enum-told-3
+    regular-requires
     same-length
     same-length-2
     returns
     same-length-3
     same-length-4
-    returns-2)
+    returns-2
+    same-length-5
+    same-length-6
+    returns-3)

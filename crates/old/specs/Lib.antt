@@ -1,0 +1,5 @@
+pub mod Old
+pub mod Claims
+pub mod Read
+pub mod Make
+pub mod Call
