@@ -12,6 +12,7 @@ pub mod Answers
 pub mod LabelsLoop
 pub mod MakeParts
 pub mod SetAll
+pub mod EntryDepth
 pub mod Lent
 pub mod MakeLoop
 pub mod CallLaws

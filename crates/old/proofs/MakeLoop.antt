@@ -285,6 +285,7 @@ module _ (s w : Bytes) (at left k q i n : ℕ) (ty : Ty) (rest : Bytes) (m : Mak
               rest = drop (valueAt k s q) s;
               lead = next .lead;
               room = omega (arith, put-long w w₁ n hn l);
+              small = m .small;
             }
 
         pub join-ready : 1024 ≤ length w → SomeJoin s k q (putBack w n w₁) n (n + len)

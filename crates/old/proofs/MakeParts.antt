@@ -35,8 +35,9 @@ use Rattle.old.specs.Old.{made, madeLabels}
 use Rattle.old.specs.Read.{Within}
 use Rattle.old.specs.declared.Answer.{Answer}
 use Rattle.old.specs.declared.Answer.the-variants.{Done, Large}
-use Rattle.old.specs.Make.{madeBy, MadeAs, OldAt, MakesAt, SamePlace, Copies, SomeNames, LabelsMade, Acc, opening, listed, mapped, united, accKind, AccAt, joinedBy, accLarge, accLong, accType, startOf, StartedAs, Join, SomeJoin, JoinedAs, Joins, Ending, SomeEnding}
+use Rattle.old.specs.Make.{madeBy, MadeAs, OldAt, MakesAt, SamePlace, Copies, SomeNames, LabelsMade, Acc, opening, listed, mapped, united, accKind, AccAt, joinedBy, accLarge, accLong, accType, startOf, StartedAs, Join, SomeJoin, EnteringMap, JoinedAs, Joins, Ending, SomeEnding}
 use Rattle.old.proofs.Answers.{type-long}
+use Rattle.old.proofs.EntryDepth.{one-map}
 
 front-sets : (w x : Bytes) → length x ≤ length w → slice 0 (length x) (sets w 0 x) ≡ x
 front-sets w x h = rw (zero-add (length x)) at (slice-sets w 0 x (omega arith))
@@ -199,17 +200,21 @@ module _ (s : Bytes) (k q : ℕ) (w : Bytes) (n end : ℕ) where
     spelt : (m : Bytes) (rest : Bytes) → drop q s ≡ nameTo m rest → x ≡ map hex m
     spelt m rest d = y ∙ rw f (name-part s q m rest d)
 
-    pub entry-ready : SomeJoin s k q w n end → Entering w n end x
+    pub entry-ready : SomeJoin s k q w n end → EnteringMap w n end x
     entry-ready p = go (p .acc) (p .join)
       where
-        go : (a : Acc) → Join s k q w n end a (p .name) (p .ty) → Entering w n end x
+        go : (a : Acc) → Join s k q w n end a (p .name) (p .ty) → EnteringMap w n end x
         go opening j = absurd (omega (arith, j .kind))
         go (listed v) j = absurd (omega (arith, j .kind))
         go (mapped fs) j =
             record {
-              map = record { fields = fs; name = p .name; front = record { at = j .at; spelt = spelt (p .name) (j .rest) (j .lead z) } };
-              value = record { ty = p .ty; at = j .new };
-              room = j .room;
+              entering =
+                  record {
+                    map = record { fields = fs; name = p .name; front = record { at = j .at; spelt = spelt (p .name) (j .rest) (j .lead z) } };
+                    value = record { ty = p .ty; at = j .new };
+                    room = j .room;
+                  };
+              map = one-map w n fs (j .at) (j .small);
             }
         go (united ms) j = absurd (omega (arith, j .kind))
 

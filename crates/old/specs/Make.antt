@@ -6,11 +6,13 @@ use mathlib.Core.Option.{some}
 use mathlib.Core.Bool.{Bool, true, false, cond}
 use lib.Dec.{eqb}
 use lib.ListN.{length, take, drop, getD}
+use Rattle.semantics.specs.Limits.{nestingLimit}
 use Rattle.semantics.specs.Bytes.{Bytes, hex}
-use Rattle.semantics.specs.Ty.{tUnknown, Ty, base, tList, tMap, tNode, Fields, ∅ᶠ, nameTo, namesTo, lineTo, line, tooLarge, inserts, opened, joined, setField, insertName, insertNames, ascending}
+use Rattle.semantics.specs.Ty.{tUnknown, Ty, base, tList, tMap, tNode, Fields, ∅ᶠ, nameTo, namesTo, lineTo, line, nesting, tooLarge, inserts, opened, joined, setField, insertName, insertNames, ascending}
 use Rattle.semantics.proofs.Named.{Name, Names}
 use Rattle.ty.specs.Parts.{linesOf, TypeAt}
 use Rattle.ty.specs.Union.{TypesAt, overlong}
+use Rattle.ty.specs.Entry.{Entering}
 use Rattle.ty.specs.Read.{contentOf}
 use Rattle.ty.specs.Made.{Made as Stands, made as grownBy}
 use Rattle.ty.specs.declared.Grown.{Grown}
@@ -162,6 +164,7 @@ pub record Join (s : Bytes) (k q : ℕ) (w : Bytes) (n end : ℕ) (a : Acc) (m :
   pub rest : Bytes
   pub lead : k ≡ 75 → drop q s ≡ nameTo m rest
   pub room : 1024 ≤ length w
+  pub small : accLarge a ≡ false
 
 pub record SomeJoin (s : Bytes) (k q : ℕ) (w : Bytes) (n end : ℕ) : Type 0 where
   pub acc : Acc
@@ -176,6 +179,17 @@ pub record JoinedAs (w w′ : Bytes) (a : Acc) (r : Grown) : Type 0 where
 
 abbrev pub Joins : Bytes → ℕ → ℕ → Bytes → Bytes → ℕ → ℕ → Grown → Type 0
 Joins s k q w w′ n end r = (a : Acc) (m : Bytes) (u : Ty) → Join s k q w n end a m u → JoinedAs w w′ (joinedBy a m u) r
+
+-- ## An entry more in a map that is not nested too deep
+
+pub record EnteringMap (w : Bytes) (n end : ℕ) (x : Bytes) : Type 0 where
+  pub entering : Entering w n end x
+  pub map : (fs : Fields) → TypeAt w 0 n (tMap fs) → nesting (tMap fs) ≤ nestingLimit
+
+-- with a value that it may hold
+pub record EnteringValue (w : Bytes) (n end : ℕ) (x : Bytes) : Type 0 where
+  pub before : EnteringMap w n end x
+  pub value : (t : Ty) → TypeAt w n end t → nesting t < nestingLimit
 
 -- ## No inner type is left
 
