@@ -1,7 +1,7 @@
 //! Links the static library named by CYRS_LIB, if it is set, and tells the harness which of the calls it exports.
 //!
-//! CYRS_LIB: the path of the archive (libcyrs.a). CYRS_CALLS: the calls in it, some of [`CALLS`] with commas between; the
-//! first two if it is not set.
+//! CYRS_LIB: the path of the archive (libcyrs.a). CYRS_CALLS: the calls in it, some of [`CALLS`] with commas between
+//! (`cyrs_enter_type` stands for all calls on a store); the first two if it is not set.
 
 use std::env;
 use std::path::Path;
@@ -11,6 +11,7 @@ const CALLS: &[&str] = &[
     "cyrs_infer_types",
     "cyrs_check_sheet",
     "cyrs_regular_line",
+    "cyrs_enter_type",
 ];
 
 fn main() {

@@ -3,9 +3,10 @@
 //! [`old::bench`].
 
 use crate::calls;
+use crate::catalogue;
 use crate::generate::sheets::{deep_to, long};
 use crate::generate::tree::{Line, Tree};
-use crate::library::{check_call, regular_call, sheet_call, unify_call};
+use crate::library::{check_call, regular_call, sheet_call, store_calls, unify_call};
 use crate::library::{CheckCall, SheetCall, UnifyCall};
 use crate::limits::{DEPTH, NAME_BYTES, SHEET_BYTES, UNIFY_OUT_BYTES, WORK_BYTES};
 use crate::old;
@@ -138,7 +139,12 @@ pub fn run() -> bool {
     if let Some(linked) = regular {
         old::bench::run(linked);
     }
-    let any = unify.is_some() || check.is_some() || sheet.is_some() || regular.is_some();
+    let store = store_calls();
+    if let Some(linked) = store {
+        catalogue::bench::run(linked);
+    }
+    let others = regular.is_some() || store.is_some();
+    let any = unify.is_some() || check.is_some() || sheet.is_some() || others;
     if !any {
         println!("no library is linked (CYRS_LIB was not set at build time): nothing measured");
     }

@@ -4,6 +4,7 @@
 pub mod bench;
 pub mod calls;
 pub mod cases;
+pub mod catalogue;
 pub mod differential;
 pub mod exchange;
 pub mod external;

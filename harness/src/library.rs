@@ -1,7 +1,13 @@
 //! The static library's calls in safe wrappers, for those that are linked (build.rs). A slice goes over as its address
 //! and its length, a returned number by address.
 
-#[cfg(any(cyrs_unify, cyrs_infer_types, cyrs_regular_line, cyrs_check_sheet))]
+#[cfg(any(
+    cyrs_unify,
+    cyrs_infer_types,
+    cyrs_check_sheet,
+    cyrs_regular_line,
+    cyrs_enter_type
+))]
 mod linked {
     extern "C" {
         #[cfg(cyrs_unify)]
@@ -42,6 +48,34 @@ mod linked {
 
         #[cfg(cyrs_check_sheet)]
         pub fn cyrs_check_sheet(sheet: *const u8, sheet_len: usize, place: *mut u64) -> u32;
+
+        #[cfg(cyrs_enter_type)]
+        pub fn cyrs_enter_type(
+            store: *mut u8,
+            store_len: usize,
+            text: *const u8,
+            text_len: usize,
+            first: *mut u64,
+            second: *mut u64,
+        ) -> u32;
+
+        #[cfg(cyrs_enter_type)]
+        pub fn cyrs_release_type(
+            store: *mut u8,
+            store_len: usize,
+            number: u64,
+            first: *mut u64,
+        ) -> u32;
+
+        #[cfg(cyrs_enter_type)]
+        pub fn cyrs_look_up_type(
+            store: *const u8,
+            store_len: usize,
+            number: u64,
+            at: *mut u64,
+            length: *mut u64,
+            uses: *mut u64,
+        ) -> u32;
     }
 }
 
@@ -89,8 +123,43 @@ pub fn check_call() -> Option<CheckCall> {
     None
 }
 
+/// Enters a type in a store: number, the type's number, its uses.
+pub type EnterCall = fn(&mut [u8], &[u8]) -> (u32, u64, u64);
+
+/// Releases a use: number, uses left.
+pub type ReleaseCall = fn(&mut [u8], u64) -> (u32, u64);
+
+/// Looks a number up: number, place and length of the line in the store, uses.
+pub type LookUpCall = fn(&[u8], u64) -> (u32, u64, u64, u64);
+
+/// The three calls on a store of types.
+#[derive(Clone, Copy)]
+pub struct StoreCalls {
+    pub enter: EnterCall,
+    pub release: ReleaseCall,
+    pub look_up: LookUpCall,
+}
+
+/// The linked calls on a store, if there are any: `cyrs_enter_type` stands for all three.
+pub fn store_calls() -> Option<StoreCalls> {
+    #[cfg(cyrs_enter_type)]
+    return Some(StoreCalls {
+        enter: enter_type,
+        release: release_type,
+        look_up: look_up_type,
+    });
+    #[cfg(not(cyrs_enter_type))]
+    None
+}
+
 /// What a returned number holds before the call, so that one that is never written shows.
-#[cfg(any(cyrs_unify, cyrs_infer_types, cyrs_regular_line, cyrs_check_sheet))]
+#[cfg(any(
+    cyrs_unify,
+    cyrs_infer_types,
+    cyrs_check_sheet,
+    cyrs_regular_line,
+    cyrs_enter_type
+))]
 const UNSET: u64 = 0xdead_beef_dead_beef;
 
 #[cfg(cyrs_infer_types)]
@@ -158,4 +227,47 @@ fn check_sheet(sheet: &[u8]) -> (u32, u64) {
     // SAFETY: as above.
     let number = unsafe { linked::cyrs_check_sheet(sheet.as_ptr(), sheet.len(), &mut place) };
     (number, place)
+}
+
+#[cfg(cyrs_enter_type)]
+fn enter_type(store: &mut [u8], text: &[u8]) -> (u32, u64, u64) {
+    let (mut first, mut second) = (UNSET, UNSET);
+    // SAFETY: as above.
+    let number = unsafe {
+        linked::cyrs_enter_type(
+            store.as_mut_ptr(),
+            store.len(),
+            text.as_ptr(),
+            text.len(),
+            &mut first,
+            &mut second,
+        )
+    };
+    (number, first, second)
+}
+
+#[cfg(cyrs_enter_type)]
+fn release_type(store: &mut [u8], number: u64) -> (u32, u64) {
+    let mut first = UNSET;
+    // SAFETY: as above.
+    let refusal =
+        unsafe { linked::cyrs_release_type(store.as_mut_ptr(), store.len(), number, &mut first) };
+    (refusal, first)
+}
+
+#[cfg(cyrs_enter_type)]
+fn look_up_type(store: &[u8], number: u64) -> (u32, u64, u64, u64) {
+    let (mut at, mut length, mut uses) = (UNSET, UNSET, UNSET);
+    // SAFETY: as above.
+    let refusal = unsafe {
+        linked::cyrs_look_up_type(
+            store.as_ptr(),
+            store.len(),
+            number,
+            &mut at,
+            &mut length,
+            &mut uses,
+        )
+    };
+    (refusal, at, length, uses)
 }

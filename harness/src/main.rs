@@ -1,7 +1,10 @@
 //! The commands of the harness; README.md tells of each.
 
 use cyrs_harness::differential::{self, Library};
-use cyrs_harness::{bench, exchange, external, facts, library, old, self_check, vectors};
+use cyrs_harness::library::store_calls;
+use cyrs_harness::{
+    bench, catalogue, exchange, external, facts, library, old, self_check, vectors,
+};
 use std::env;
 use std::path::Path;
 use std::process::ExitCode;
@@ -12,6 +15,7 @@ const USAGE: &str = "usage:
   cyrs-harness exchange N [SEED]         unify N pairs without unions in both orders, by the linked library or the reference
   cyrs-harness quick                     all of it with 40,000 cases, after a short check of the reference
   cyrs-harness bench                     measure the linked calls and the reference on the same inputs
+  cyrs-harness catalogue N [SEED]        compare the linked calls on a store: all fixed and N random calls
   cyrs-harness self N [SEED]             check the reference alone, N rounds
   cyrs-harness vectors DIR               write the fixed answers into DIR
   cyrs-harness typesheet PATH N [SEED]   compare a typesheet program on all fixed and N random sheets
@@ -50,6 +54,10 @@ fn command(args: &[&str]) -> Result<bool, String> {
             let (count, seed) = count_and_seed(rest)?;
             check_reference(count, seed)
         }
+        ["catalogue", rest @ ..] => {
+            let (count, seed) = count_and_seed(rest)?;
+            Ok(compare_store(count, seed).unwrap_or_else(nothing_linked))
+        }
         ["vectors", folder] => write_vectors(folder),
         ["typesheet", path, rest @ ..] => {
             let (count, seed) = count_and_seed(rest)?;
@@ -78,11 +86,20 @@ fn count_and_seed(args: &[&str]) -> Result<(u64, u64), String> {
 
 fn compare(count: u64, seed: u64) -> Result<bool, String> {
     let library = Library::linked();
-    if library.is_empty() {
-        println!("no library is linked (CYRS_LIB was not set at build time): nothing compared");
-        return Ok(true);
-    }
-    Ok(differential::run(library, count, seed))
+    let cases = (!library.is_empty()).then(|| differential::run(library, count, seed));
+    let results = [cases, compare_store(count, seed)];
+    let compared = results.into_iter().flatten().reduce(|a, b| a && b);
+    Ok(compared.unwrap_or_else(nothing_linked))
+}
+
+/// Compares the calls on a store of types, if they are linked.
+fn compare_store(count: u64, seed: u64) -> Option<bool> {
+    store_calls().map(|calls| catalogue::compare::run(calls, count, seed))
+}
+
+fn nothing_linked() -> bool {
+    println!("no such call is linked (CYRS_LIB and CYRS_CALLS at build time): nothing compared");
+    true
 }
 
 fn compare_old(count: u64, seed: u64) -> bool {
@@ -125,5 +142,8 @@ fn write_vectors(folder: &str) -> Result<bool, String> {
     println!("{sheets} sheets and {pairs} pairs written");
     let lines = old::vectors::write(Path::new(folder)).map_err(|e| format!("{folder}: {e}"))?;
     println!("{lines} old type lines written");
+    let stores =
+        catalogue::vectors::write(Path::new(folder)).map_err(|e| format!("{folder}: {e}"))?;
+    println!("{stores} store calls written");
     Ok(true)
 }

@@ -1,5 +1,8 @@
 //! The stored answers are the reference's, and are what the command writes.
 
+use cyrs_harness::catalogue::cases::{settle, REFERENCE};
+use cyrs_harness::catalogue::vectors::{self as stores, STORES_FILE};
+use cyrs_harness::library::store_calls;
 use cyrs_harness::limits::WORK_BYTES;
 use cyrs_harness::old::vectors as old;
 use cyrs_harness::old::vectors::OLD_FILE;
@@ -63,4 +66,29 @@ fn old_lines() {
     assert!(cases == old::old_cases() && old::file_text(&cases) == text);
     assert!(text.len() < 300_000);
     assert_eq!(numbers.into_iter().collect::<Vec<_>>(), [0, 2, 6, 7, 12]);
+}
+
+#[test]
+fn store_answers() {
+    let text = stored(STORES_FILE);
+    assert!(text.len() <= 700_000);
+    let cases = stores::read(&text).unwrap_or_else(|e| panic!("{STORES_FILE}: {e}"));
+    assert_eq!(cases.len(), 500);
+    assert!(stores::file_text(REFERENCE, &cases) == text);
+    let numbers = cases.iter().map(|c| settle(REFERENCE, c).0.number);
+    let numbers: BTreeSet<u32> = numbers.collect();
+    let numbers: Vec<u32> = numbers.into_iter().collect();
+    assert_eq!(numbers, [0, 2, 8, 13, 14, 15]);
+    if let Some(linked) = store_calls() {
+        assert!(stores::file_text(linked, &cases) == text);
+    }
+}
+
+/// The program `replay_store` is fed the store calls, if it is there.
+#[test]
+fn replay_store_input() {
+    let path = Path::new(env!("CARGO_MANIFEST_DIR")).join("../crates/replay_store/stdin");
+    if let Ok(input) = fs::read(path) {
+        assert!(input == stored(STORES_FILE));
+    }
 }

@@ -152,7 +152,7 @@ pub fn type_line(out: &mut [u8], fill: usize, text: &[u8]) -> usize
 }
 
 // A line of a head and two numbers.
-fn numbers_line(out: &mut [u8], fill: usize, head: &[u8], first: u64, second: u64) -> usize
+pub fn numbers_line(out: &mut [u8], fill: usize, head: &[u8], first: u64, second: u64) -> usize
     requires { ⌜ fill + length (now head) + 42 < 2 ^ 64 ⌝ }
     ensures { λ r. ⌜ NumbersLine (now (head .entry)) first second (now (out .entry)) (now (out .exit)) fill r ⌝ }
 {
