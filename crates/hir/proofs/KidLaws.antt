@@ -6,7 +6,7 @@ use Prim.Native.Nat.{ℕ, suc, zero, _+_, _-_, _*_, _/_, _%_, _≤_, _<_}
 use native.Mathlib.Omega.{arith}
 use lib.Dec.{eqb, ltb}
 use lib.ListN.{length, getD, replicate}
-use Rattle.semantics.specs.Sheet.{Word, CYRS, B, END, MAT, CRE, MER, WHE, WIT, RET, UNW, SET, REM, DEL, CAL, PRO, SP, SL, SM, RP, RL, LAB, PARTS, PART, NOD, REL, NULL, BOOL, INT, FLT, STR, VAR, PAR, UNR, EXI, PROP, IDX, SLI, LIS, MAP, KEY, CALL, BIN, UNA, CASE, ISN, IN, PAT, LCP, PCP, LPR, MPR, COP, COM, SHO, ALI, Field, Place, AtFirst, AtBinding, AtClause, AtEnd, AtProjection, AtSetItem, AtRemoveItem, AtLabel, AtParts, AtPart, AtElement, AtEntry, AtItem, AtExpression, Role, plain, condition, answer, inner, low, high, present, armRoles, Want, at, wanted, row, rank}
+use Rattle.semantics.specs.Sheet.{kids, Word, CYRS, B, END, MAT, CRE, MER, WHE, WIT, RET, UNW, SET, REM, DEL, CAL, PRO, SP, SL, SM, RP, RL, LAB, PARTS, PART, NOD, REL, NULL, BOOL, INT, FLT, STR, VAR, PAR, UNR, EXI, PROP, IDX, SLI, LIS, MAP, KEY, CALL, BIN, UNA, CASE, ISN, IN, PAT, LCP, PCP, LPR, MPR, COP, COM, SHO, ALI, Field, Place, AtFirst, AtBinding, AtClause, AtEnd, AtProjection, AtSetItem, AtRemoveItem, AtLabel, AtParts, AtPart, AtElement, AtEntry, AtItem, AtExpression, Role, plain, condition, answer, inner, low, high, present, armRoles, Want, at, wanted, row, rank}
 use Rattle.line.specs.Arrays.{classes, slots, groups, seconds}
 use Rattle.line.specs.Rows.{wordNo}
 use Rattle.line.specs.Line.{most}
@@ -99,7 +99,7 @@ projected-kids : (d k n m : ℕ) → n ≡ 1 → m ≡ k → map (wanted d) (pla
 projected-kids d k n m e g = rw (e, g) (ap (λ (l : List Want). at AtExpression d ∷ l) (map-replicate (wanted d) k (inner AtItem)))
 
 pub kids-rule : (v : Word) (ns : List ℕ) (d : ℕ) → ((i : ℕ) → getD ns i 0 ≤ most (row v .fields) i)
-    → map (wanted d) (row v .under ns) ≡ kidWants (wordNo v) (getD ns (getD slots (wordNo v) 0 / 8) 0) (getD ns (getD slots (wordNo v) 0 % 8) 0) d
+    → map (wanted d) (kids (row v .under) ns) ≡ kidWants (wordNo v) (getD ns (getD slots (wordNo v) 0 / 8) 0) (getD ns (getD slots (wordNo v) 0 % 8) 0) d
 unfolding row wordNo slots groups seconds kidWants placeAt groupSize most
 kids-rule CYRS ns d h = none-kids d (groupSize 0 (getD ns 7 0) (getD ns 7 0)) (groupSize 0 (getD ns 7 0) (getD ns 7 0)) (at AtFirst d) (at AtFirst d) (omega arith) (omega arith)
 kids-rule B ns d h = none-kids d (groupSize 0 (getD ns 7 0) (getD ns 7 0)) (groupSize 0 (getD ns 7 0) (getD ns 7 0)) (at AtFirst d) (at AtFirst d) (omega arith) (omega arith)

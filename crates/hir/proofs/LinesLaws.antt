@@ -12,7 +12,7 @@ use borrow.Author.Tests.{eqb-true}
 use lib.Seq.{drop-drop}
 use Rattle.semantics.specs.Limits.{depthLimit}
 use Rattle.semantics.specs.Bytes.{Bytes, front, split}
-use Rattle.semantics.specs.Sheet.{Word, CYRS, B, END, MAT, CRE, MER, WHE, WIT, RET, UNW, SET, REM, DEL, CAL, PRO, SP, SL, SM, RP, RL, LAB, PARTS, PART, NOD, REL, NULL, BOOL, INT, FLT, STR, VAR, PAR, UNR, EXI, PROP, IDX, SLI, LIS, MAP, KEY, CALL, BIN, UNA, CASE, ISN, IN, PAT, LCP, PCP, LPR, MPR, COP, COM, SHO, ALI, Place, AtProjection, AtSetItem, AtRemoveItem, AtLabel, AtParts, AtPart, AtElement, AtEntry, AtItem, AtExpression, Role, plain, condition, answer, inner, present, armRoles, deeper, Head, variableOf, rank, place, row, Read, bad, ok, andThen, Field, variable, letter, Value, wrong, number, variableV, value, into, fill, bare, words, wordIn, Want, first, clauses, bindings, at, wanted, fits, beyond, under, after, roles, arity, readLine, Sheet, refused, heads, add, check, sheet}
+use Rattle.semantics.specs.Sheet.{kids, Word, CYRS, B, END, MAT, CRE, MER, WHE, WIT, RET, UNW, SET, REM, DEL, CAL, PRO, SP, SL, SM, RP, RL, LAB, PARTS, PART, NOD, REL, NULL, BOOL, INT, FLT, STR, VAR, PAR, UNR, EXI, PROP, IDX, SLI, LIS, MAP, KEY, CALL, BIN, UNA, CASE, ISN, IN, PAT, LCP, PCP, LPR, MPR, COP, COM, SHO, ALI, Place, AtProjection, AtSetItem, AtRemoveItem, AtLabel, AtParts, AtPart, AtElement, AtEntry, AtItem, AtExpression, Role, plain, condition, answer, inner, present, armRoles, deeper, Head, variableOf, rank, place, row, Read, bad, ok, andThen, Field, variable, letter, Value, wrong, number, variableV, value, into, fill, bare, words, wordIn, Want, first, clauses, bindings, at, wanted, fits, beyond, under, after, roles, arity, readLine, Sheet, refused, heads, add, check, sheet}
 use Rattle.semantics.specs.Walk.{Env, Res, step, walk}
 use Rattle.semantics.proofs.Split.{split-inj}
 use Rattle.line.specs.Line.{Plain, unknown, known, wordSays, piecesSay, lineSays, placed, HeadIs, SaysAs, ReadAs}
@@ -303,7 +303,7 @@ if-in : (b : Bool) (p q : Role) → Good p → Good q → Good (cond b p q)
 if-in true p q g h = g
 if-in false p q g h = h
 
-roles-in : (v : Word) (ns : List ℕ) → RolesIn (row v .under ns)
+roles-in : (v : Word) (ns : List ℕ) → RolesIn (kids (row v .under) ns)
 unfolding row rank
 roles-in CYRS ns = no-role
 roles-in B ns = no-role

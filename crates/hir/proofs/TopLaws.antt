@@ -9,7 +9,7 @@ use lib.Dec.{eqb, ltb, leb}
 use lib.ListN.{length, getD, drop, length-drop, length-append, drop-of-length-le}
 use borrow.Author.Tests.{eqb-true, eqb-false, ltb-true, ltb-false, leb-true, ne-eqb, eq-eqb, le-ltb, lt-ltb, le-leb, lt-leb}
 use Rattle.semantics.specs.Bytes.{Bytes, front, split}
-use Rattle.semantics.specs.Sheet.{Word, CYRS, B, END, MAT, CRE, MER, WHE, WIT, RET, UNW, SET, REM, DEL, CAL, PRO, SP, SL, SM, RP, RL, LAB, PARTS, PART, NOD, REL, NULL, BOOL, INT, FLT, STR, VAR, PAR, UNR, EXI, PROP, IDX, SLI, LIS, MAP, KEY, CALL, BIN, UNA, CASE, ISN, IN, PAT, LCP, PCP, LPR, MPR, COP, COM, SHO, ALI, Head, variableOf, Place, Read, bad, ok, andThen, Want, first, clauses, bindings, at, wanted, deeper, row, rank, place, roles, fits, beyond, after, under, readLine, Sheet, refused, heads, add, check, sheet}
+use Rattle.semantics.specs.Sheet.{kids, Word, CYRS, B, END, MAT, CRE, MER, WHE, WIT, RET, UNW, SET, REM, DEL, CAL, PRO, SP, SL, SM, RP, RL, LAB, PARTS, PART, NOD, REL, NULL, BOOL, INT, FLT, STR, VAR, PAR, UNR, EXI, PROP, IDX, SLI, LIS, MAP, KEY, CALL, BIN, UNA, CASE, ISN, IN, PAT, LCP, PCP, LPR, MPR, COP, COM, SHO, ALI, Head, variableOf, Place, Read, bad, ok, andThen, Want, first, clauses, bindings, at, wanted, deeper, row, rank, place, roles, fits, beyond, after, under, readLine, Sheet, refused, heads, add, check, sheet}
 use Rattle.line.specs.Rows.{wordNo}
 use Rattle.line.specs.Line.{Plain, unknown, known, lineSays, placed, HeadIs, SaysAs, ReadAs}
 use Rattle.line.specs.declared.line.Head.{Head as Seen}
@@ -27,7 +27,7 @@ use Rattle.hir.proofs.PlaceLaws.{classOf, Fit, line-unfit, line-wrong, 
 
 -- ## Lines that hold no others
 
-plain-rule : (v : Word) (ns : List ℕ) → rank (row v .place) < 4 → (rank (row v .place) ≡ 2 → ⊥) → row v .under ns ≡ []
+plain-rule : (v : Word) (ns : List ℕ) → rank (row v .place) < 4 → (rank (row v .place) ≡ 2 → ⊥) → kids (row v .under) ns ≡ []
 unfolding row rank
 plain-rule CYRS ns a b = refl
 plain-rule B ns a b = refl

@@ -10,7 +10,7 @@ use lib.Dec.{eqb}
 use lib.ListN.{length, getD, replicate}
 use borrow.Author.Tests.{eq-eqb, ne-eqb}
 use Rattle.semantics.specs.Bytes.{Bytes}
-use Rattle.semantics.specs.Sheet.{Word, CYRS, B, END, MAT, CRE, MER, WHE, WIT, RET, UNW, SET, REM, DEL, CAL, PRO, SP, SL, SM, RP, RL, LAB, PARTS, PART, NOD, REL, NULL, BOOL, INT, FLT, STR, VAR, PAR, UNR, EXI, PROP, IDX, SLI, LIS, MAP, KEY, CALL, BIN, UNA, CASE, ISN, IN, PAT, LCP, PCP, LPR, MPR, COP, COM, SHO, ALI, Head, AtProjection, AtSetItem, AtRemoveItem, AtLabel, AtParts, AtPart, AtElement, AtEntry, AtItem, Role, plain, condition, answer, inner, low, high, present, armRoles, row, roles, arity}
+use Rattle.semantics.specs.Sheet.{kids, Word, CYRS, B, END, MAT, CRE, MER, WHE, WIT, RET, UNW, SET, REM, DEL, CAL, PRO, SP, SL, SM, RP, RL, LAB, PARTS, PART, NOD, REL, NULL, BOOL, INT, FLT, STR, VAR, PAR, UNR, EXI, PROP, IDX, SLI, LIS, MAP, KEY, CALL, BIN, UNA, CASE, ISN, IN, PAT, LCP, PCP, LPR, MPR, COP, COM, SHO, ALI, Head, AtProjection, AtSetItem, AtRemoveItem, AtLabel, AtParts, AtPart, AtElement, AtEntry, AtItem, Role, plain, condition, answer, inner, low, high, present, armRoles, row, roles, arity}
 use Rattle.line.specs.Arrays.{slots}
 use Rattle.line.specs.Rows.{wordNo}
 use Rattle.line.specs.Line.{most, flagOf, countOf, HeadIs}
@@ -147,7 +147,7 @@ unfolding roleNo
 quiet-bit zero ps q = q
 quiet-bit (suc k) ps q = quiet-cons plain ps refl q
 
-others : (v : Word) (ns : List ℕ) → (wordNo v ≡ 44 → ⊥) → ((wordNo v ≡ 48) ⊎ (wordNo v ≡ 49) → ⊥) → Quiet (row v .under ns)
+others : (v : Word) (ns : List ℕ) → (wordNo v ≡ 44 → ⊥) → ((wordNo v ≡ 48) ⊎ (wordNo v ≡ 49) → ⊥) → Quiet (kids (row v .under) ns)
 unfolding row wordNo roleNo
 others CYRS ns n m = quiet-nil
 others B ns n m = quiet-nil
@@ -298,7 +298,7 @@ module _ (f k j : ℕ) (fits : j < length (caseRow f k)) (past : f % 2 ≤ j) wh
 
 -- ## A line that is read
 
-case-under : (v : Word) (ns : List ℕ) → v ≡ CASE → row v .under ns ≡ caseRow (getD ns (getD slots (wordNo v) 0 % 8) 0) (getD ns (getD slots (wordNo v) 0 / 8) 0)
+case-under : (v : Word) (ns : List ℕ) → v ≡ CASE → kids (row v .under) ns ≡ caseRow (getD ns (getD slots (wordNo v) 0 % 8) 0) (getD ns (getD slots (wordNo v) 0 / 8) 0)
 unfolding row wordNo slots caseRow
 case-under v ns e = rw e
 
@@ -327,7 +327,7 @@ pub record Around (v : Word) (ns : List ℕ) : Type 0 where
   pub first : Role
   pub quiet : roleNo first ≡ 0
   pub bit : getD ns (getD slots (wordNo v) 0 % 8) 0 ≤ 1
-  pub is : row v .under ns ≡ first ∷ present (getD ns (getD slots (wordNo v) 0 % 8) 0) condition (plain ∷ [])
+  pub is : kids (row v .under) ns ≡ first ∷ present (getD ns (getD slots (wordNo v) 0 % 8) 0) condition (plain ∷ [])
 
 around-of : (v : Word) (ns : List ℕ) → ((i : ℕ) → getD ns i 0 ≤ most (row v .fields) i) → (wordNo v ≡ 48) ⊎ (wordNo v ≡ 49) → Around v ns
 unfolding inOrder row wordNo slots roleNo most

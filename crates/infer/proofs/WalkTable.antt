@@ -4,7 +4,7 @@ use mathlib.Core.List.{List, [], _∷_}
 use Prim.Native.Nat.{ℕ, suc, zero, _≤_}
 use native.Mathlib.Omega.{arith}
 use lib.ListN.{length, getD, replicate}
-use Rattle.semantics.specs.Sheet.{Word, CYRS, B, END, MAT, CRE, MER, WHE, WIT, RET, UNW, SET, REM, DEL, CAL, PRO, SP, SL, SM, RP, RL, LAB, PARTS, PART, NOD, REL, NULL, BOOL, INT, FLT, STR, VAR, PAR, UNR, EXI, PROP, IDX, SLI, LIS, MAP, KEY, CALL, BIN, UNA, CASE, ISN, IN, PAT, LCP, PCP, LPR, MPR, COP, COM, SHO, ALI, Head, Role, plain, inner, AtEntry, Typing, constant, varType, element, slice, listing, mapping, calling, operator, unary, casing, membership, comprehension, Rule, silent, entering, typed, row, rank, rule, place, roles, arity}
+use Rattle.semantics.specs.Sheet.{kids, Word, CYRS, B, END, MAT, CRE, MER, WHE, WIT, RET, UNW, SET, REM, DEL, CAL, PRO, SP, SL, SM, RP, RL, LAB, PARTS, PART, NOD, REL, NULL, BOOL, INT, FLT, STR, VAR, PAR, UNR, EXI, PROP, IDX, SLI, LIS, MAP, KEY, CALL, BIN, UNA, CASE, ISN, IN, PAT, LCP, PCP, LPR, MPR, COP, COM, SHO, ALI, Head, Role, plain, inner, AtEntry, Typing, constant, varType, element, slice, listing, mapping, calling, operator, unary, casing, membership, comprehension, Rule, silent, entering, typed, row, rank, rule, place, roles, arity}
 use Rattle.semantics.proofs.All.{All, empty, also}
 use Rattle.line.specs.Rows.{wordNo}
 
@@ -108,18 +108,18 @@ all-times : (k : ℕ) → All Entry (replicate k (inner AtEntry))
 all-times zero = empty
 all-times (suc k) = also refl (all-times k)
 
-row-kids : (v : Word) (ns : List ℕ) → KidsBy (row v .rule) (row v .under ns)
+row-kids : (v : Word) (ns : List ℕ) → KidsBy (row v .rule) (kids (row v .under) ns)
 unfolding row
 row-kids v ns =
     elim v [ CYRS ↦ tt | B ↦ tt | END ↦ tt | MAT ↦ tt | CRE ↦ tt | MER ↦ tt | WHE ↦ tt | WIT ↦ tt | RET ↦ tt | UNW ↦ tt | SET ↦ tt | REM ↦ tt | DEL ↦ tt | CAL ↦ tt | PRO ↦ tt | SP ↦ tt | SL ↦ tt | SM ↦ tt | RP ↦ tt | RL ↦ tt | LAB ↦ tt | PARTS ↦ tt | PART ↦ tt | NOD ↦ tt | REL ↦ tt | NULL ↦ tt | BOOL ↦ tt | INT ↦ tt | FLT ↦ tt | STR ↦ tt | VAR ↦ tt | PAR ↦ tt | UNR ↦ tt | EXI ↦ tt | PROP ↦ tt | IDX ↦ omega arith | SLI ↦ omega arith | LIS ↦ tt | MAP ↦ all-times (getD ns 0 0) | KEY ↦ refl | CALL ↦ tt | BIN ↦ refl | UNA ↦ omega arith | CASE ↦ tt | ISN ↦ tt | IN ↦ refl | PAT ↦ tt | LCP ↦ omega arith | PCP ↦ omega arith | LPR ↦ tt | MPR ↦ tt | COP ↦ tt | COM ↦ tt | SHO ↦ tt | ALI ↦ tt ]
 
 pub kids-at : (h : Head) (q : Typing) → rule h ≡ typed q → KidsOf q (roles h)
 unfolding roles
-kids-at h q e = subst (λ r. KidsBy r (row (h .word) .under (h .nums))) e (row-kids (h .word) (h .nums))
+kids-at h q e = subst (λ r. KidsBy r (kids (row (h .word) .under) (h .nums))) e (row-kids (h .word) (h .nums))
 
 pub entry-roles : (h : Head) → rule h ≡ entering → roles h ≡ plain ∷ []
 unfolding roles
-entry-roles h e = subst (λ r. KidsBy r (row (h .word) .under (h .nums))) e (row-kids (h .word) (h .nums))
+entry-roles h e = subst (λ r. KidsBy r (kids (row (h .word) .under) (h .nums))) e (row-kids (h .word) (h .nums))
 
 pub entry-arity : (h : Head) → rule h ≡ entering → arity h ≡ 1
 unfolding arity

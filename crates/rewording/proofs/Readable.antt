@@ -9,9 +9,10 @@ use lib.ListN.{length}
 use lib.Dec.{eqb, leb, ltb}
 use borrow.Author.Tests.{leb-true, ne-eqb}
 use Rattle.semantics.specs.Bytes.{Bytes, split, decimal}
-use Rattle.semantics.specs.Sheet.{Word, CYRS, B, END, MAT, CRE, MER, WHE, WIT, RET, UNW, SET, REM, DEL, CAL, PRO, SP, SL, SM, RP, RL, LAB, PARTS, PART, NOD, REL, NULL, BOOL, INT, FLT, STR, VAR, PAR, UNR, EXI, PROP, IDX, SLI, LIS, MAP, KEY, CALL, BIN, UNA, CASE, ISN, IN, PAT, LCP, PCP, LPR, MPR, COP, COM, SHO, ALI, Field, range, variable, letter, Head, num, variableOf, row, rank, place, roles, words, wordIn, Value, wrong, number, variableV, nameV, aliasV, within, lettered, value, Read, bad, ok, into, fill, bare, Want, first, clauses, bindings, at, fits, beyond, andThen, readFields, readAs, readPieces, readLine, after, under, Sheet, refused, heads, add, carry, check, sheet}
+use Rattle.semantics.specs.Sheet.{Word, CYRS, B, Field, range, variable, letter, Head, num, variableOf, row, rank, place, roles, words, wordIn, Value, wrong, number, variableV, nameV, aliasV, within, lettered, value, Read, bad, ok, into, fill, bare, Want, first, clauses, bindings, at, fits, beyond, andThen, readFields, readAs, readPieces, readLine, after, under, Sheet, refused, heads, add, carry, check, sheet}
 use Rattle.semantics.specs.Walk.{bound, boundBy}
 use Rattle.semantics.proofs.All.{either}
+use Rattle.semantics.proofs.Words.{every-where}
 use Rattle.rewording.specs.Reword.{mk, bindingLine, withBindings}
 
 -- ## Words by their place
@@ -21,63 +22,21 @@ data Placed : Word → Type 0 where
   a-binding : Placed B
   another : {w : Word} → eqb (rank (row w .place)) 0 ≡ false → eqb (rank (row w .place)) 1 ≡ false → Placed w
 
-placed : (w : Word) → Placed w
+first-word : (w : Word) → eqb (rank (row w .place)) 0 ≡ true → w ≡ CYRS
 unfolding row rank
-placed CYRS = a-first
-placed B = a-binding
-placed END = another refl refl
-placed MAT = another refl refl
-placed CRE = another refl refl
-placed MER = another refl refl
-placed WHE = another refl refl
-placed WIT = another refl refl
-placed RET = another refl refl
-placed UNW = another refl refl
-placed SET = another refl refl
-placed REM = another refl refl
-placed DEL = another refl refl
-placed CAL = another refl refl
-placed PRO = another refl refl
-placed SP = another refl refl
-placed SL = another refl refl
-placed SM = another refl refl
-placed RP = another refl refl
-placed RL = another refl refl
-placed LAB = another refl refl
-placed PARTS = another refl refl
-placed PART = another refl refl
-placed NOD = another refl refl
-placed REL = another refl refl
-placed NULL = another refl refl
-placed BOOL = another refl refl
-placed INT = another refl refl
-placed FLT = another refl refl
-placed STR = another refl refl
-placed VAR = another refl refl
-placed PAR = another refl refl
-placed UNR = another refl refl
-placed EXI = another refl refl
-placed PROP = another refl refl
-placed IDX = another refl refl
-placed SLI = another refl refl
-placed LIS = another refl refl
-placed MAP = another refl refl
-placed KEY = another refl refl
-placed CALL = another refl refl
-placed BIN = another refl refl
-placed UNA = another refl refl
-placed CASE = another refl refl
-placed ISN = another refl refl
-placed IN = another refl refl
-placed PAT = another refl refl
-placed LCP = another refl refl
-placed PCP = another refl refl
-placed LPR = another refl refl
-placed MPR = another refl refl
-placed COP = another refl refl
-placed COM = another refl refl
-placed SHO = another refl refl
-placed ALI = another refl refl
+first-word w e = every-where (λ (v : Word). eqb (rank (row v .place)) 0) (λ (v : Word). v) CYRS refl w e
+
+binding-word : (w : Word) → eqb (rank (row w .place)) 1 ≡ true → w ≡ B
+unfolding row rank
+binding-word w e = every-where (λ (v : Word). eqb (rank (row v .place)) 1) (λ (v : Word). v) B refl w e
+
+placed : (w : Word) → Placed w
+placed w = go (eqb (rank (row w .place)) 0) refl (eqb (rank (row w .place)) 1) refl
+  where
+    go : (a : Bool) → eqb (rank (row w .place)) 0 ≡ a → (b : Bool) → eqb (rank (row w .place)) 1 ≡ b → Placed w
+    go true d b e = subst Placed (sym (first-word w d)) a-first
+    go false d true e = subst Placed (sym (binding-word w e)) a-binding
+    go false d false e = another d e
 
 -- ## The first line
 

@@ -7,6 +7,7 @@ pub mod WalkCases
 pub mod LongCases
 pub mod Order
 pub mod All
+pub mod Words
 pub mod Regular
 pub mod RegularUnify
 pub mod RegularWalk

@@ -1,4 +1,5 @@
 -- Every type that the walk gives is regular. Assumes nothing.
+use mathlib.Core.Path.{_≡_, refl, _∙_, ap}
 use mathlib.Core.List.{List, [], _∷_}
 use mathlib.Core.Option.{Option, none, some}
 use Prim.Native.Nat.{ℕ, suc}
@@ -7,90 +8,21 @@ use Rattle.semantics.specs.Bytes.{Bytes, same}
 use Rattle.semantics.specs.Ty.{tAny, tUnknown, Ty, base, tList, tMap, tNode, tRelationship, tUnion, Fields, ∅ᶠ, setField}
 use Rattle.semantics.specs.Unify.{Answer, agreed, mismatch, unify}
 use Rattle.semantics.specs.Builtins.{ReturnShape, fixed, listElement, listSelf, Builtin, ID, SIZE, HEAD, TAIL, LAST, KEYS, VALUES, signature, lookup, elementOf, listOr, resolveReturn}
-use Rattle.semantics.specs.Sheet.{Word, CYRS, B, END, MAT, CRE, MER, WHE, WIT, RET, UNW, SET, REM, DEL, CAL, PRO, SP, SL, SM, RP, RL, LAB, PARTS, PART, NOD, REL, NULL, BOOL, INT, FLT, STR, VAR, PAR, UNR, EXI, PROP, IDX, SLI, LIS, MAP, KEY, CALL, BIN, UNA, CASE, ISN, IN, PAT, LCP, PCP, LPR, MPR, COP, COM, SHO, ALI, Head, num, Role, plain, condition, answer, inner, Typing, constant, varType, element, slice, listing, mapping, calling, operator, unary, casing, membership, comprehension, Rule, silent, entering, typed, row, rule, roles, arity}
+use Rattle.semantics.specs.Sheet.{Word, Head, num, Role, plain, condition, answer, inner, Typing, constant, varType, element, slice, listing, mapping, calling, operator, unary, casing, membership, comprehension, Rule, silent, entering, typed, row, rule, roles, arity}
 use Rattle.semantics.specs.Walk.{Top, Res, Env, kindType, varTypeIn, varTypeOf, aNumber, meets, numeric, Op, arithmetic, comparison, equality, boolean, string, concat, op, orElse, opType, unaryType, callType, grown, running, listed, mapped, answers, lastOf, tyOf, tys, nth, typeBy, typeOf, topsOf, tops, topsBy, step, walk, envOf, results, allTops, typing}
 use Rattle.semantics.proofs.All.{All, empty, also, all-map, all-append, all-take, all-drop, all-at, either}
+use Rattle.semantics.proofs.Words.{Simple, a-base, a-map, row-simple}
 use Rattle.semantics.proofs.Regular.{Regular, unite-regular, no-entries, set-regular}
 use Rattle.semantics.proofs.RegularUnify.{RegularAnswer, unify-answer}
 
 -- ## The table of words and that of built-ins
 
 abbrev RegularTyping : Typing → Type 0
-RegularTyping (constant t) = Regular t
-RegularTyping varType = Unit {0}
-RegularTyping element = Unit {0}
-RegularTyping slice = Unit {0}
-RegularTyping listing = Unit {0}
-RegularTyping mapping = Unit {0}
-RegularTyping calling = Unit {0}
-RegularTyping operator = Unit {0}
-RegularTyping unary = Unit {0}
-RegularTyping casing = Unit {0}
-RegularTyping membership = Unit {0}
-RegularTyping comprehension = Unit {0}
+RegularTyping k = (t : Ty) → k ≡ constant t → Regular t
 
-abbrev RegularRule : Rule → Type 0
-RegularRule silent = Unit {0}
-RegularRule entering = Unit {0}
-RegularRule (typed k) = RegularTyping k
-
-row-regular : (w : Word) → RegularRule (row w .rule)
-unfolding row
-row-regular CYRS = tt
-row-regular B = tt
-row-regular END = tt
-row-regular MAT = tt
-row-regular CRE = tt
-row-regular MER = tt
-row-regular WHE = tt
-row-regular WIT = tt
-row-regular RET = tt
-row-regular UNW = tt
-row-regular SET = tt
-row-regular REM = tt
-row-regular DEL = tt
-row-regular CAL = tt
-row-regular PRO = tt
-row-regular SP = tt
-row-regular SL = tt
-row-regular SM = tt
-row-regular RP = tt
-row-regular RL = tt
-row-regular LAB = tt
-row-regular PARTS = tt
-row-regular PART = tt
-row-regular NOD = tt
-row-regular REL = tt
-row-regular NULL = tt
-row-regular BOOL = tt
-row-regular INT = tt
-row-regular FLT = tt
-row-regular STR = tt
-row-regular VAR = tt
-row-regular PAR = tt
-row-regular UNR = tt
-row-regular EXI = tt
-row-regular PROP = tt
-row-regular IDX = tt
-row-regular SLI = tt
-row-regular LIS = tt
-row-regular MAP = tt
-row-regular KEY = tt
-row-regular CALL = tt
-row-regular BIN = tt
-row-regular UNA = tt
-row-regular CASE = tt
-row-regular ISN = tt
-row-regular IN = tt
-row-regular PAT = tt
-row-regular LCP = tt
-row-regular PCP = tt
-row-regular LPR = tt
-row-regular MPR = no-entries
-row-regular COP = tt
-row-regular COM = tt
-row-regular SHO = tt
-row-regular ALI = tt
+simple-regular : {t : Ty} → Simple t → Regular t
+simple-regular (a-base b) = tt
+simple-regular a-map = no-entries
 
 abbrev RegularReturn : ReturnShape → Type 0
 RegularReturn (fixed t) = Regular t
@@ -218,7 +150,7 @@ nth-regular a i = all-at (base tUnknown) tt (tys-regular a) i
 
 type-by-regular : (k : Typing) → RegularTyping k → (env : Env) (h : Head) (ps : List Role) {es : List (Bytes × Ty)} → All RegularEntry es → Regular (typeBy k env h ps es)
 unfolding typeBy
-type-by-regular (constant t) r env h ps a = r
+type-by-regular (constant t) r env h ps a = r t refl
 type-by-regular varType r env h ps a = var-regular (h .var) env
 type-by-regular element r env h ps {es} a = element-regular (nth es 0) (nth-regular a 0)
 type-by-regular slice r env h ps {es} a = list-regular (base tAny) (nth es 0) tt (nth-regular a 0)
@@ -231,11 +163,11 @@ type-by-regular casing r env h ps a = unite-regular (answers-regular ps (tys-reg
 type-by-regular membership r env h ps a = tt
 type-by-regular comprehension r env h ps a = last-regular (base tUnknown) tt (tys-regular a)
 
-type-regular : (q : Rule) → RegularRule q → (env : Env) (h : Head) (ps : List Role) {es : List (Bytes × Ty)} → All RegularEntry es → Regular (typeOf q env h ps es)
+type-regular : (q : Rule) → ((k : Typing) → q ≡ typed k → RegularTyping k) → (env : Env) (h : Head) (ps : List Role) {es : List (Bytes × Ty)} → All RegularEntry es → Regular (typeOf q env h ps es)
 unfolding typeOf
 type-regular silent r env h ps a = tt
 type-regular entering r env h ps a = nth-regular a 0
-type-regular (typed k) r env h ps a = type-by-regular k r env h ps a
+type-regular (typed k) r env h ps a = type-by-regular k (r k refl) env h ps a
 
 -- ## The walk
 
@@ -270,7 +202,7 @@ tops-by-regular (typed k) ps a = empty
 -- a line from what hangs under it
 pub step-regular : (env : Env) (n : ℕ) (h : Head) {rs : List Res} → AllRegular rs → RegularRes (step env n h rs)
 unfolding step
-step-regular env n h a = (type-regular (rule h) (row-regular (h .word)) env h (roles h) (all-map (λ r. (r .name, r .ty)) (λ r q. q .0) a), tops-by-regular (rule h) (roles h) a)
+step-regular env n h a = (type-regular (rule h) (λ k d t e. simple-regular (row-simple (h .word) t (d ∙ ap typed e))) env h (roles h) (all-map (λ r. (r .name, r .ty)) (λ r q. q .0) a), tops-by-regular (rule h) (roles h) a)
 
 -- every line of a walk has a regular type and regular top expressions
 pub walk-regular : (env : Env) (n : ℕ) (hs : List Head) → AllRegular (walk env n hs)

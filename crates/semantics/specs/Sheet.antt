@@ -49,12 +49,24 @@ pub data Rule : Type 0 where
   silent entering : Rule
   typed : Typing → Rule
 
+-- what hangs under a line, as a form that its numbers fill (`kids` below): nothing; one of a role; two expressions; a role as often as the
+-- number at i says; likewise, and then an expression by the bit at j; a first child, a condition by the bit at j, and an expression; an
+-- expression, and one more by the bit at j; an expression, and a role as often as the number at i says; a list and its bounds; the arms of a CASE
+pub data Shape : Type 0 where
+  nothing two bounds arms : Shape
+  one : Role → Shape
+  times : ℕ → Role → Shape
+  timesThen : ℕ → Role → ℕ → Shape
+  around : Role → ℕ → Shape
+  oneThen : ℕ → Shape
+  oneTimes : ℕ → Role → Shape
+
 -- all that sets a word apart: its spelling, where it may stand, its fields, what hangs under it by its numbers, its rule
 pub record Row : Type 0 where
   pub spelled : String
   pub place : Place
   pub fields : List Field
-  pub under : List ℕ → List Role
+  pub under : Shape
   pub rule : Rule
 
 -- a line as read: its word, its variable, its numbers in order, its name. Each line has one variable and one name at most; no name is
@@ -80,26 +92,6 @@ abbrev pub present : ℕ → Role → List Role → List Role
 present zero p r = r
 present (suc n) p r = p ∷ r
 
--- nothing; one; two; as often as the number at i says; likewise and then an expression by the bit at j
-abbrev pub nothing : List ℕ → List Role
-nothing ns = []
-
-abbrev pub one : Role → List ℕ → List Role
-one p ns = p ∷ []
-
-abbrev pub two : List ℕ → List Role
-two ns = plain ∷ plain ∷ []
-
-abbrev pub times : ℕ → Role → List ℕ → List Role
-times i p ns = replicate (getD ns i 0) p
-
-abbrev pub timesThen : ℕ → Role → ℕ → List ℕ → List Role
-timesThen i p j ns = replicate (getD ns i 0) p ++ present (getD ns j 0) plain []
-
--- a first child, one by the bit at j, and a last
-abbrev pub around : Role → ℕ → List ℕ → List Role
-around p j ns = p ∷ present (getD ns j 0) condition (plain ∷ [])
-
 unfoldable pub armRoles : Role → ℕ → List Role → List Role
 armRoles c zero r = r
 armRoles c (suc n) r = c ∷ answer ∷ armRoles c n r
@@ -113,11 +105,24 @@ caseRoles ns =
 abbrev pub sliceRoles : List ℕ → List Role
 sliceRoles ns = let f = getD ns 0 0 in plain ∷ present (low f) plain (present (high f) plain [])
 
-abbrev pub line : String → Place → List Field → (List ℕ → List Role) → Rule → Row
+-- the children of a shape, by the numbers of their line
+abbrev pub kids : Shape → List ℕ → List Role
+kids nothing ns = []
+kids two ns = plain ∷ plain ∷ []
+kids bounds ns = sliceRoles ns
+kids arms ns = caseRoles ns
+kids (one p) ns = p ∷ []
+kids (times i p) ns = replicate (getD ns i 0) p
+kids (timesThen i p j) ns = replicate (getD ns i 0) p ++ present (getD ns j 0) plain []
+kids (around p j) ns = p ∷ present (getD ns j 0) condition (plain ∷ [])
+kids (oneThen j) ns = plain ∷ present (getD ns j 0) plain []
+kids (oneTimes i p) ns = plain ∷ replicate (getD ns i 0) p
+
+abbrev pub line : String → Place → List Field → Shape → Rule → Row
 line s p fs u r = record { spelled = s; place = p; fields = fs; under = u; rule = r }
 
 -- an expression line
-abbrev pub expr : String → List Field → (List ℕ → List Role) → Typing → Row
+abbrev pub expr : String → List Field → Shape → Typing → Row
 expr s fs u t = line s AtExpression fs u (typed t)
 
 -- THE TABLE: a row for each word
@@ -158,21 +163,21 @@ row UNR = expr "unr" (name ∷ []) nothing (constant (base tUnknown))
 row EXI = expr "exi" [] nothing (constant (base tUnknown))
 row PROP = expr "prop" (name ∷ []) (one plain) (constant (base tAny))
 row IDX = expr "idx" [] two element
-row SLI = expr "sli" (upto 3 ∷ []) sliceRoles slice
+row SLI = expr "sli" (upto 3 ∷ []) bounds slice
 row LIS = expr "lis" (count ∷ []) (times 0 plain) listing
 row MAP = expr "map" (count ∷ []) (times 0 (inner AtEntry)) mapping
 row KEY = line "key" AtEntry (name ∷ []) (one plain) entering
 row CALL = expr "call" (name ∷ upto 1 ∷ count ∷ []) (times 1 plain) calling
 row BIN = expr "bin" (upto 19 ∷ []) two operator
 row UNA = expr "una" (upto 1 ∷ []) (one plain) unary
-row CASE = expr "case" (upto 3 ∷ count ∷ []) caseRoles casing
+row CASE = expr "case" (upto 3 ∷ count ∷ []) arms casing
 row ISN = expr "isn" (upto 1 ∷ []) (one plain) (constant (base tBool))
 row IN = expr "in" [] two membership
 row PAT = expr "pat" [] (one (inner AtParts)) (constant (base tBool))
 row LCP = expr "lcp" (variable ∷ upto 1 ∷ []) (around plain 0) comprehension
 row PCP = expr "pcp" (upto 1 ∷ []) (around (inner AtParts) 0) comprehension
-row LPR = expr "lpr" (upto 3 ∷ variable ∷ upto 1 ∷ []) (λ ns. plain ∷ present (getD ns 1 0) plain []) (constant (base tBool))
-row MPR = expr "mpr" (count ∷ []) (λ ns. plain ∷ times 0 (inner AtItem) ns) (constant (tMap ∅ᶠ))
+row LPR = expr "lpr" (upto 3 ∷ variable ∷ upto 1 ∷ []) (oneThen 1) (constant (base tBool))
+row MPR = expr "mpr" (count ∷ []) (oneTimes 0 (inner AtItem)) (constant (tMap ∅ᶠ))
 row COP = line "cop" AtItem (name ∷ []) nothing silent
 row COM = line "com" AtItem (name ∷ []) (one plain) silent
 row SHO = line "sho" AtItem (variable ∷ name ∷ []) nothing silent
@@ -191,7 +196,7 @@ abbrev pub place : Head → Place
 place h = row (h .word) .place
 
 unfoldable pub roles : Head → List Role
-roles h = row (h .word) .under (h .nums)
+roles h = kids (row (h .word) .under) (h .nums)
 
 unfoldable pub arity : Head → ℕ
 arity h = length (roles h)

@@ -9,7 +9,7 @@ use lib.ListN.{length, getD, take, drop, replicate, length-append, length-map}
 use lib.Seq.{drop-drop}
 use borrow.Author.Tests.{eqb-true, eqb-false, leb-true, ne-eqb, eq-eqb}
 use Rattle.semantics.specs.Bytes.{Bytes}
-use Rattle.semantics.specs.Sheet.{Word, CYRS, B, END, MAT, CRE, MER, WHE, WIT, RET, UNW, SET, REM, DEL, CAL, PRO, SP, SL, SM, RP, RL, LAB, PARTS, PART, NOD, REL, NULL, BOOL, INT, FLT, STR, VAR, PAR, UNR, EXI, PROP, IDX, SLI, LIS, MAP, KEY, CALL, BIN, UNA, CASE, ISN, IN, PAT, LCP, PCP, LPR, MPR, COP, COM, SHO, ALI, Place, AtFirst, AtBinding, AtClause, AtEnd, AtProjection, AtSetItem, AtRemoveItem, AtLabel, AtParts, AtPart, AtElement, AtEntry, AtItem, AtExpression, Role, plain, condition, answer, inner, Typing, Rule, silent, entering, typed, present, armRoles, deeper, Head, rank, place, rule, row, Want, clauses, at, wanted, fits, beyond, ok, under, after, roles, arity}
+use Rattle.semantics.specs.Sheet.{kids, Word, CYRS, B, END, MAT, CRE, MER, WHE, WIT, RET, UNW, SET, REM, DEL, CAL, PRO, SP, SL, SM, RP, RL, LAB, PARTS, PART, NOD, REL, NULL, BOOL, INT, FLT, STR, VAR, PAR, UNR, EXI, PROP, IDX, SLI, LIS, MAP, KEY, CALL, BIN, UNA, CASE, ISN, IN, PAT, LCP, PCP, LPR, MPR, COP, COM, SHO, ALI, Place, AtFirst, AtBinding, AtClause, AtEnd, AtProjection, AtSetItem, AtRemoveItem, AtLabel, AtParts, AtPart, AtElement, AtEntry, AtItem, AtExpression, Role, plain, condition, answer, inner, Typing, Rule, silent, entering, typed, present, armRoles, deeper, Head, rank, place, rule, row, Want, clauses, at, wanted, fits, beyond, ok, under, after, roles, arity}
 use Rattle.semantics.specs.Ty.{Ty}
 use Rattle.semantics.specs.Walk.{Env, Res, Top, no-part, topsOf, tops, topsBy, through, lastTests, child, on, step, walk, envOf, results, allTops, allTests, typing}
 use Rattle.hir.specs.Lines.{Met, all-met, meets, Ascends, no-binding, ascends}
@@ -119,7 +119,7 @@ if-fine : {c : ℕ} (b : Bool) {p q : Role} → FineRole c p → FineRole c q �
 if-fine true g h = g
 if-fine false g h = h
 
-roles-fine : (v : Word) (ns : List ℕ) → Fine (kind (row v .rule)) (row v .under ns)
+roles-fine : (v : Word) (ns : List ℕ) → Fine (kind (row v .rule)) (kids (row v .under) ns)
 unfolding row rank
 roles-fine CYRS ns = no-role
 roles-fine B ns = no-role
@@ -179,7 +179,7 @@ roles-fine SHO ns = no-role
 roles-fine ALI ns = a-role fine-plain no-role
 
 -- lines that hold no others
-bare-rule : (v : Word) (ns : List ℕ) → rank (row v .place) < 4 → (rank (row v .place) ≡ 2 → ⊥) → row v .under ns ≡ []
+bare-rule : (v : Word) (ns : List ℕ) → rank (row v .place) < 4 → (rank (row v .place) ≡ 2 → ⊥) → kids (row v .under) ns ≡ []
 unfolding row rank
 bare-rule CYRS ns a b = refl
 bare-rule B ns a b = refl

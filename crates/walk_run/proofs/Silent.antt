@@ -5,7 +5,7 @@ use Prim.Native.Nat.{ℕ, suc, zero}
 use native.Mathlib.Omega.{arith}
 use lib.ListN.{length, getD, replicate}
 use Rattle.semantics.specs.Ty.{Ty}
-use Rattle.semantics.specs.Sheet.{Word, CYRS, B, END, MAT, CRE, MER, WHE, WIT, RET, UNW, SET, REM, DEL, CAL, PRO, SP, SL, SM, RP, RL, LAB, PARTS, PART, NOD, REL, NULL, BOOL, INT, FLT, STR, VAR, PAR, UNR, EXI, PROP, IDX, SLI, LIS, MAP, KEY, CALL, BIN, UNA, CASE, ISN, IN, PAT, LCP, PCP, LPR, MPR, COP, COM, SHO, ALI, Head, Role, plain, inner, AtProjection, AtSetItem, AtRemoveItem, AtLabel, AtPart, AtElement, present, Rule, silent, entering, row, rule, roles, arity}
+use Rattle.semantics.specs.Sheet.{kids, Word, CYRS, B, END, MAT, CRE, MER, WHE, WIT, RET, UNW, SET, REM, DEL, CAL, PRO, SP, SL, SM, RP, RL, LAB, PARTS, PART, NOD, REL, NULL, BOOL, INT, FLT, STR, VAR, PAR, UNR, EXI, PROP, IDX, SLI, LIS, MAP, KEY, CALL, BIN, UNA, CASE, ISN, IN, PAT, LCP, PCP, LPR, MPR, COP, COM, SHO, ALI, Head, Role, plain, inner, AtProjection, AtSetItem, AtRemoveItem, AtLabel, AtPart, AtElement, present, Rule, silent, entering, row, rule, roles, arity}
 use Rattle.semantics.specs.Walk.{Res, Env, typeOf, asked, spread, own, lastTests, no-part, Part, child, through, label, step, allTests}
 use Rattle.semantics.specs.Calls.{firstLarge}
 use Rattle.semantics.proofs.All.{All, empty, also, all-append}
@@ -35,7 +35,7 @@ all-present : {P : Role → Type 0} (m : ℕ) (p : Role) {ps : List Role} → P 
 all-present zero p h a = a
 all-present (suc m) p h a = also h a
 
-row-free : (w : Word) (ns : List ℕ) → FreeRule (row w .rule) (row w .under ns)
+row-free : (w : Word) (ns : List ℕ) → FreeRule (row w .rule) (kids (row w .under) ns)
 unfolding row asked
 row-free CYRS ns = empty
 row-free B ns = empty
@@ -119,7 +119,7 @@ silent-run env n h e rs l = (
     s = step-by env n h silent e rs
 
     free : All Free (roles h)
-    free = unfold roles in subst (λ q. FreeRule q (row (h .word) .under (h .nums))) e (row-free (h .word) (h .nums))
+    free = unfold roles in subst (λ q. FreeRule q (kids (row (h .word) .under) (h .nums))) e (row-free (h .word) (h .nums))
 
 -- so the first of its tests that is too large is that of its children
 pub silent-large : (env : Env) (n : ℕ) (h : Head) → rule h ≡ silent → (rs : List Res) → length rs ≡ arity h → firstLarge (step env n h rs .tests) ≡ firstLarge (allTests rs)
@@ -135,7 +135,7 @@ entering-run env n h e r = (ap (λ x. x .name) s ∙ (unfold label in refl), ap 
     s = step-by env n h entering e (r ∷ [])
 
     one : roles h ≡ plain ∷ []
-    one = unfold roles in subst (λ q. FreeRule q (row (h .word) .under (h .nums))) e (row-free (h .word) (h .nums))
+    one = unfold roles in subst (λ q. FreeRule q (kids (row (h .word) .under) (h .nums))) e (row-free (h .word) (h .nums))
 
     faults : stepBy entering (roles h) env n h (r ∷ []) .faults ≡ r .faults
     faults = ap (λ ps. stepBy entering ps env n h (r ∷ []) .faults) one ∙ unfold own spread asked in append-nil (r .faults ++ []) ∙ append-nil (r .faults)
