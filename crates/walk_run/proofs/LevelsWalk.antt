@@ -1,4 +1,5 @@
 -- Every type that the walk gives has no more levels than its line stands high. Assumes nothing.
+use mathlib.Core.Path.{_≡_, refl, _∙_, ap}
 use mathlib.Core.List.{List, [], _∷_}
 use mathlib.Core.Option.{Option, none, some}
 use Prim.Native.Nat.{ℕ, suc, zero, _+_, _*_, _≤_}
@@ -9,8 +10,9 @@ use Rattle.semantics.specs.Bytes.{Bytes}
 use Rattle.semantics.specs.Ty.{tAny, tUnknown, Ty, base, tList, tMap, tNode, tRelationship, tUnion, Fields, ∅ᶠ, nesting, setField}
 use Rattle.semantics.specs.Unify.{Answer, agreed, mismatch, unify}
 use Rattle.semantics.specs.Builtins.{ReturnShape, fixed, listElement, listSelf, Builtin, ID, SIZE, HEAD, TAIL, LAST, KEYS, VALUES, signature, lookup, elementOf, listOr, resolveReturn}
-use Rattle.semantics.specs.Sheet.{Word, CYRS, B, END, MAT, CRE, MER, WHE, WIT, RET, UNW, SET, REM, DEL, CAL, PRO, SP, SL, SM, RP, RL, LAB, PARTS, PART, NOD, REL, NULL, BOOL, INT, FLT, STR, VAR, PAR, UNR, EXI, PROP, IDX, SLI, LIS, MAP, KEY, CALL, BIN, UNA, CASE, ISN, IN, PAT, LCP, PCP, LPR, MPR, COP, COM, SHO, ALI, Head, num, Role, plain, condition, answer, inner, Typing, constant, varType, element, slice, listing, mapping, calling, operator, unary, casing, membership, comprehension, Rule, silent, entering, typed, row, rule, roles, arity}
+use Rattle.semantics.specs.Sheet.{Word, Head, num, Role, plain, condition, answer, inner, Typing, constant, varType, element, slice, listing, mapping, calling, operator, unary, casing, membership, comprehension, Rule, silent, entering, typed, row, rule, roles, arity}
 use Rattle.semantics.specs.Walk.{Res, Env, kindType, varTypeIn, varTypeOf, aNumber, meets, numeric, Op, arithmetic, comparison, equality, boolean, string, concat, op, orElse, opType, unaryType, callType, grown, running, listed, mapped, answers, lastOf, tyOf, tys, nth, typeBy, typeOf, step, walk}
+use Rattle.semantics.proofs.Words.{Simple, a-base, a-map, row-simple}
 use Rattle.semantics.proofs.All.{All, empty, also, all-map, all-at, either}
 use Rattle.semantics.proofs.RegularWalk.{AllRegular, walk-regular}
 use Rattle.walk_run.specs.Depth.{levels, greatest, rise, height}
@@ -20,81 +22,12 @@ use Rattle.walk_run.proofs.LevelsUnify.{LowAnswer, unify-low}
 -- ## The table of words and that of built-ins
 
 abbrev LowTyping : Typing → Type 0
-LowTyping (constant t) = Low 1 t
-LowTyping varType = Unit {0}
-LowTyping element = Unit {0}
-LowTyping slice = Unit {0}
-LowTyping listing = Unit {0}
-LowTyping mapping = Unit {0}
-LowTyping calling = Unit {0}
-LowTyping operator = Unit {0}
-LowTyping unary = Unit {0}
-LowTyping casing = Unit {0}
-LowTyping membership = Unit {0}
-LowTyping comprehension = Unit {0}
+LowTyping k = (t : Ty) → k ≡ constant t → Low 1 t
 
-abbrev LowRule : Rule → Type 0
-LowRule silent = Unit {0}
-LowRule entering = Unit {0}
-LowRule (typed k) = LowTyping k
-
-row-low : (w : Word) → LowRule (row w .rule)
-unfolding row levels
-row-low CYRS = tt
-row-low B = tt
-row-low END = tt
-row-low MAT = tt
-row-low CRE = tt
-row-low MER = tt
-row-low WHE = tt
-row-low WIT = tt
-row-low RET = tt
-row-low UNW = tt
-row-low SET = tt
-row-low REM = tt
-row-low DEL = tt
-row-low CAL = tt
-row-low PRO = tt
-row-low SP = tt
-row-low SL = tt
-row-low SM = tt
-row-low RP = tt
-row-low RL = tt
-row-low LAB = tt
-row-low PARTS = tt
-row-low PART = tt
-row-low NOD = tt
-row-low REL = tt
-row-low NULL = omega arith
-row-low BOOL = omega arith
-row-low INT = omega arith
-row-low FLT = omega arith
-row-low STR = omega arith
-row-low VAR = tt
-row-low PAR = omega arith
-row-low UNR = omega arith
-row-low EXI = omega arith
-row-low PROP = omega arith
-row-low IDX = tt
-row-low SLI = tt
-row-low LIS = tt
-row-low MAP = tt
-row-low KEY = tt
-row-low CALL = tt
-row-low BIN = tt
-row-low UNA = tt
-row-low CASE = tt
-row-low ISN = omega arith
-row-low IN = tt
-row-low PAT = omega arith
-row-low LCP = tt
-row-low PCP = tt
-row-low LPR = omega arith
-row-low MPR = omega arith
-row-low COP = tt
-row-low COM = tt
-row-low SHO = tt
-row-low ALI = tt
+simple-low : {t : Ty} → Simple t → Low 1 t
+unfolding levels
+simple-low (a-base b) = omega arith
+simple-low a-map = omega arith
 
 abbrev LowReturn : ReturnShape → Type 0
 LowReturn (fixed t) = Low 1 t
@@ -225,7 +158,7 @@ nth-low m a i = let z : Low m (base tUnknown) = omega arith in all-at (base tUnk
 
 type-by-low : (m : ℕ) (k : Typing) → LowTyping k → (env : Env) (h : Head) (ps : List Role) {es : List (Bytes × Ty)} → All (LowEntry m) es → Low (suc m) (typeBy k env h ps es)
 unfolding typeBy levels
-type-by-low m (constant t) r env h ps a = omega arith
+type-by-low m (constant t) r env h ps a = omega (arith, r t refl)
 type-by-low m varType r env h ps a = var-low (suc m) (h .var) env
 type-by-low m element r env h ps {es} a = omega (arith, element-low m (nth es 0) (nth-low m a 0))
 type-by-low m slice r env h ps {es} a = let z : Low m (base tAny) = omega arith in omega (arith, list-or-low m (base tAny) (nth es 0) z (nth-low m a 0))
@@ -238,15 +171,15 @@ type-by-low m casing r env h ps a = omega (arith, unite-low m (answers-low m ps 
 type-by-low m membership r env h ps a = omega arith
 type-by-low m comprehension r env h ps a = let z : Low m (base tUnknown) = omega arith in omega (arith, last-low m (base tUnknown) z (tys-low m a))
 
-type-low : (m : ℕ) (q : Rule) → LowRule q → (env : Env) (h : Head) (ps : List Role) {es : List (Bytes × Ty)} → All (LowEntry m) es → Low (rise q m) (typeOf q env h ps es)
+type-low : (m : ℕ) (q : Rule) → ((k : Typing) → q ≡ typed k → LowTyping k) → (env : Env) (h : Head) (ps : List Role) {es : List (Bytes × Ty)} → All (LowEntry m) es → Low (rise q m) (typeOf q env h ps es)
 unfolding typeOf rise levels
 type-low m silent r env h ps a = omega arith
 type-low m entering r env h ps a = nth-low m a 0
-type-low m (typed k) r env h ps a = type-by-low m k r env h ps a
+type-low m (typed k) r env h ps a = type-by-low m k (r k refl) env h ps a
 
 -- the type of a line whose children have at most m levels
 pub line-low : (m : ℕ) (env : Env) (h : Head) {es : List (Bytes × Ty)} → All (LowEntry m) es → Low (rise (rule h) m) (typeOf (rule h) env h (roles h) es)
-line-low m env h a = type-low m (rule h) (row-low (h .word)) env h (roles h) a
+line-low m env h a = type-low m (rule h) (λ k d t e. simple-low (row-simple (h .word) t (d ∙ ap typed e))) env h (roles h) a
 
 -- ## The walk
 

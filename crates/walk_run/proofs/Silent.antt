@@ -1,14 +1,16 @@
 -- Lines that are no expressions: what stands under them passes through. Assumes nothing.
-use mathlib.Core.Path.{_≡_, refl, _∙_, ap, subst}
+use mathlib.Core.Path.{_≡_, refl, sym, _∙_, ap}
 use mathlib.Core.List.{List, [], _∷_, _++_, append-nil}
+use mathlib.Core.Bool.{Bool, true, false}
 use Prim.Native.Nat.{ℕ, suc, zero}
 use native.Mathlib.Omega.{arith}
-use lib.ListN.{length, getD, replicate}
+use lib.ListN.{length}
 use Rattle.semantics.specs.Ty.{Ty}
-use Rattle.semantics.specs.Sheet.{kids, Word, CYRS, B, END, MAT, CRE, MER, WHE, WIT, RET, UNW, SET, REM, DEL, CAL, PRO, SP, SL, SM, RP, RL, LAB, PARTS, PART, NOD, REL, NULL, BOOL, INT, FLT, STR, VAR, PAR, UNR, EXI, PROP, IDX, SLI, LIS, MAP, KEY, CALL, BIN, UNA, CASE, ISN, IN, PAT, LCP, PCP, LPR, MPR, COP, COM, SHO, ALI, Head, Role, plain, inner, AtProjection, AtSetItem, AtRemoveItem, AtLabel, AtPart, AtElement, present, Rule, silent, entering, row, rule, roles, arity}
+use Rattle.semantics.specs.Sheet.{kids, Word, Shape, one, Head, Role, plain, condition, answer, inner, Rule, silent, entering, row, rule, roles, arity}
 use Rattle.semantics.specs.Walk.{Res, Env, typeOf, asked, spread, own, lastTests, no-part, Part, child, through, label, step, allTests}
 use Rattle.semantics.specs.Calls.{firstLarge}
-use Rattle.semantics.proofs.All.{All, empty, also, all-append}
+use Rattle.semantics.proofs.Words.{every, holds, named, each, kids-each}
+use Rattle.semantics.proofs.All.{All, empty, also}
 use Rattle.walk_run.specs.Run.{allFaults}
 use Rattle.walk_run.proofs.Fine.{stepBy, step-by}
 
@@ -18,80 +20,43 @@ use Rattle.walk_run.proofs.Fine.{stepBy, step-by}
 abbrev Free : Role → Type 0
 Free p = (t : Ty) → asked p t ≡ []
 
-abbrev FreeRule : Rule → List Role → Type 0
-FreeRule silent ps = All Free ps
-FreeRule entering ps = ps ≡ plain ∷ []
-FreeRule (Rule.typed k) ps = Unit {0}
+freeRole : Role → Bool
+freeRole plain = true
+freeRole condition = false
+freeRole answer = true
+freeRole (inner q) = true
 
-free-plain : Free plain
-unfolding asked
-free-plain t = refl
+free-true : (p : Role) → freeRole p ≡ true → Free p
+unfolding freeRole asked
+free-true plain e t = refl
+free-true condition e t = absurd (let z : _≡_ {A = ℕ} 0 1 = cc in omega arith)
+free-true answer e t = refl
+free-true (inner q) e t = refl
 
-all-times : {P : Role → Type 0} (m : ℕ) (p : Role) → P p → All P (replicate m p)
-all-times zero p h = empty
-all-times (suc m) p h = also h (all-times m p h)
+abbrev okUnder : Rule → Shape → Bool
+okUnder silent s = each freeRole (named s)
+okUnder entering s = true
+okUnder (Rule.typed k) s = true
 
-all-present : {P : Role → Type 0} (m : ℕ) (p : Role) {ps : List Role} → P p → All P ps → All P (present m p ps)
-all-present zero p h a = a
-all-present (suc m) p h a = also h a
+-- what hangs under an entry, or under any other line one expression
+abbrev entryUnder : Rule → Shape → Shape
+entryUnder silent s = one plain
+entryUnder entering s = s
+entryUnder (Rule.typed k) s = one plain
 
-row-free : (w : Word) (ns : List ℕ) → FreeRule (row w .rule) (kids (row w .under) ns)
-unfolding row asked
-row-free CYRS ns = empty
-row-free B ns = empty
-row-free END ns = empty
-row-free MAT ns = also (λ t. refl) empty
-row-free CRE ns = also (λ t. refl) empty
-row-free MER ns = also (λ t. refl) empty
-row-free WHE ns = also (λ t. refl) empty
-row-free WIT ns = all-append (all-times (getD ns 1 0) (inner AtProjection) (λ t. refl)) (all-present (getD ns 0 0) plain free-plain empty)
-row-free RET ns = all-times (getD ns 1 0) (inner AtProjection) (λ t. refl)
-row-free UNW ns = also (λ t. refl) empty
-row-free SET ns = all-times (getD ns 0 0) (inner AtSetItem) (λ t. refl)
-row-free REM ns = all-times (getD ns 0 0) (inner AtRemoveItem) (λ t. refl)
-row-free DEL ns = all-times (getD ns 1 0) plain (λ t. refl)
-row-free CAL ns = all-times (getD ns 1 0) plain (λ t. refl)
-row-free PRO ns = also (λ t. refl) empty
-row-free SP ns = also free-plain (also free-plain empty)
-row-free SL ns = all-times (getD ns 0 0) (inner AtLabel) (λ t. refl)
-row-free SM ns = also (λ t. refl) empty
-row-free RP ns = also (λ t. refl) empty
-row-free RL ns = all-times (getD ns 0 0) (inner AtLabel) (λ t. refl)
-row-free LAB ns = empty
-row-free PARTS ns = all-times (getD ns 0 0) (inner AtPart) (λ t. refl)
-row-free PART ns = all-times (getD ns 1 0) (inner AtElement) (λ t. refl)
-row-free NOD ns = all-append (all-times (getD ns 1 0) (inner AtLabel) (λ t. refl)) (all-present (getD ns 0 0) plain free-plain empty)
-row-free REL ns = all-append (all-times (getD ns 5 0) (inner AtLabel) (λ t. refl)) (all-present (getD ns 4 0) plain free-plain empty)
-row-free NULL ns = tt
-row-free BOOL ns = tt
-row-free INT ns = tt
-row-free FLT ns = tt
-row-free STR ns = tt
-row-free VAR ns = tt
-row-free PAR ns = tt
-row-free UNR ns = tt
-row-free EXI ns = tt
-row-free PROP ns = tt
-row-free IDX ns = tt
-row-free SLI ns = tt
-row-free LIS ns = tt
-row-free MAP ns = tt
-row-free KEY ns = refl
-row-free CALL ns = tt
-row-free BIN ns = tt
-row-free UNA ns = tt
-row-free CASE ns = tt
-row-free ISN ns = tt
-row-free IN ns = tt
-row-free PAT ns = tt
-row-free LCP ns = tt
-row-free PCP ns = tt
-row-free LPR ns = tt
-row-free MPR ns = tt
-row-free COP ns = empty
-row-free COM ns = also (λ t. refl) empty
-row-free SHO ns = empty
-row-free ALI ns = also (λ t. refl) empty
+silent-free : (h : Head) → rule h ≡ silent → All Free (roles h)
+unfolding row roles each freeRole
+silent-free h e =
+    let w = h .word in
+    let t : okUnder (row w .rule) (row w .under) ≡ true = holds (λ (v : Word). okUnder (row v .rule) (row v .under)) refl w in
+    kids-each freeRole free-true (row w .under) (ap (λ (r : Rule). okUnder r (row w .under)) (sym e) ∙ t) (h .nums)
+
+entry-one : (h : Head) → rule h ≡ entering → roles h ≡ plain ∷ []
+unfolding row roles
+entry-one h e =
+    let w = h .word in
+    let t : entryUnder (row w .rule) (row w .under) ≡ one plain = every (λ (v : Word). entryUnder (row v .rule) (row v .under)) (λ (v : Word). one plain) refl w in
+    ap (λ (s : Shape). kids s (h .nums)) (ap (λ (r : Rule). entryUnder r (row w .under)) (sym e) ∙ t)
 
 -- ## A line without a type
 
@@ -111,15 +76,12 @@ through-silent n j (r ∷ rs) = ap (λ l. r .tests ++ l) (through-silent n no-pa
 pub silent-run : (env : Env) (n : ℕ) (h : Head) → rule h ≡ silent → (rs : List Res) → length rs ≡ arity h → (step env n h rs .faults ≡ allFaults rs) × (step env n h rs .tests ≡ allTests rs)
 unfolding arity
 silent-run env n h e rs l = (
-  ap (λ r. r .faults) s ∙ unfold own in append-nil (spread (roles h) rs) ∙ spread-free free rs l,
+  ap (λ r. r .faults) s ∙ unfold own in append-nil (spread (roles h) rs) ∙ spread-free (silent-free h e) rs l,
   ap (λ r. r .tests) s ∙ unfold lastTests in append-nil (through n silent no-part rs) ∙ through-silent n no-part rs,
 )
   where
     s : step env n h rs ≡ stepBy silent (roles h) env n h rs
     s = step-by env n h silent e rs
-
-    free : All Free (roles h)
-    free = unfold roles in subst (λ q. FreeRule q (kids (row (h .word) .under) (h .nums))) e (row-free (h .word) (h .nums))
 
 -- so the first of its tests that is too large is that of its children
 pub silent-large : (env : Env) (n : ℕ) (h : Head) → rule h ≡ silent → (rs : List Res) → length rs ≡ arity h → firstLarge (step env n h rs .tests) ≡ firstLarge (allTests rs)
@@ -134,11 +96,8 @@ entering-run env n h e r = (ap (λ x. x .name) s ∙ (unfold label in refl), ap 
     s : step env n h (r ∷ []) ≡ stepBy entering (roles h) env n h (r ∷ [])
     s = step-by env n h entering e (r ∷ [])
 
-    one : roles h ≡ plain ∷ []
-    one = unfold roles in subst (λ q. FreeRule q (kids (row (h .word) .under) (h .nums))) e (row-free (h .word) (h .nums))
-
     faults : stepBy entering (roles h) env n h (r ∷ []) .faults ≡ r .faults
-    faults = ap (λ ps. stepBy entering ps env n h (r ∷ []) .faults) one ∙ unfold own spread asked in append-nil (r .faults ++ []) ∙ append-nil (r .faults)
+    faults = ap (λ ps. stepBy entering ps env n h (r ∷ []) .faults) (entry-one h e) ∙ unfold own spread asked in append-nil (r .faults ++ []) ∙ append-nil (r .faults)
 
     tests : stepBy entering (roles h) env n h (r ∷ []) .tests ≡ r .tests
     tests = unfold lastTests through child in append-nil (r .tests ++ []) ∙ append-nil (r .tests)
