@@ -5,27 +5,29 @@ use Prim.Native.Nat.{ℕ, suc, zero, _/_, _%_, _≤_, _<_}
 use native.Mathlib.Omega.{arith}
 use types.Run.{OneOf}
 use lib.ListN.{length, getD, List·getD-map}
-use Rattle.line.specs.Arrays.{classes, shapes, slots, groups, seconds, fieldRows, kidRows}
+use Rattle.semantics.specs.Sheet.{row, rank}
+use Rattle.line.specs.Rows.{numbered}
+use Rattle.line.specs.Arrays.{fieldNo, fieldNos, slotsOf, groupOf, secondOf, classes, shapes, slots, groups, seconds, fieldRows, kidRows}
 
 pub class-at : (w : ℕ) → getD kidRows w 0 % 16 ≡ getD classes w 0
-unfolding classes kidRows
-class-at w = sym (List·getD-map (λ n. n % 16) kidRows w 0)
+unfolding classes kidRows numbered row rank
+class-at w = sym (List·getD-map (λ n. n % 16) kidRows w 0) ∙ ap (λ (l : List ℕ). getD l w 0) (let e : map (λ n. n % 16) kidRows ≡ classes = refl in e)
 
 pub shapes-at : (w : ℕ) → getD fieldRows w 0 / 64 ≡ getD shapes w 0
-unfolding shapes fieldRows
-shapes-at w = sym (List·getD-map (λ n. n / 64) fieldRows w 0)
+unfolding shapes fieldRows numbered row fieldNo fieldNos
+shapes-at w = sym (List·getD-map (λ n. n / 64) fieldRows w 0) ∙ ap (λ (l : List ℕ). getD l w 0) (let e : map (λ n. n / 64) fieldRows ≡ shapes = refl in e)
 
 pub slots-at : (w : ℕ) → getD fieldRows w 0 % 64 ≡ getD slots w 0
-unfolding slots fieldRows
-slots-at w = sym (List·getD-map (λ n. n % 64) fieldRows w 0)
+unfolding slots fieldRows numbered row slotsOf
+slots-at w = sym (List·getD-map (λ n. n % 64) fieldRows w 0) ∙ ap (λ (l : List ℕ). getD l w 0) (let e : map (λ n. n % 64) fieldRows ≡ slots = refl in e)
 
 pub group-at : (w : ℕ) → getD kidRows w 0 / 16 % 512 ≡ getD groups w 0
-unfolding groups kidRows
-group-at w = sym (List·getD-map (λ n. n / 16 % 512) kidRows w 0)
+unfolding groups kidRows numbered row rank groupOf
+group-at w = sym (List·getD-map (λ n. n / 16 % 512) kidRows w 0) ∙ ap (λ (l : List ℕ). getD l w 0) (let e : map (λ n. n / 16 % 512) kidRows ≡ groups = refl in e)
 
 pub second-at : (w : ℕ) → getD kidRows w 0 / 8192 ≡ getD seconds w 0
-unfolding seconds kidRows
-second-at w = sym (List·getD-map (λ n. n / 8192) kidRows w 0)
+unfolding seconds kidRows numbered row rank secondOf
+second-at w = sym (List·getD-map (λ n. n / 8192) kidRows w 0) ∙ ap (λ (l : List ℕ). getD l w 0) (let e : map (λ n. n / 8192) kidRows ≡ seconds = refl in e)
 
 -- ## Behind the arms of a match on 0, 1, .. the number is none of them
 

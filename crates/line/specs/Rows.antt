@@ -65,6 +65,11 @@ wordNo COM = 53
 wordNo SHO = 54
 wordNo ALI = 55
 
+-- the words by their numbers, from 1
+unfoldable pub numbered : List Word
+numbered =
+    CYRS ∷ B ∷ END ∷ MAT ∷ CRE ∷ MER ∷ WHE ∷ WIT ∷ RET ∷ UNW ∷ SET ∷ REM ∷ DEL ∷ CAL ∷ PRO ∷ SP ∷ SL ∷ SM ∷ RP ∷ RL ∷ LAB ∷ PARTS ∷ PART ∷ NOD ∷ REL ∷ NULL ∷ BOOL ∷ INT ∷ FLT ∷ STR ∷ VAR ∷ PAR ∷ UNR ∷ EXI ∷ PROP ∷ IDX ∷ SLI ∷ LIS ∷ MAP ∷ KEY ∷ CALL ∷ BIN ∷ UNA ∷ CASE ∷ ISN ∷ IN ∷ PAT ∷ LCP ∷ PCP ∷ LPR ∷ MPR ∷ COP ∷ COM ∷ SHO ∷ ALI ∷ []
+
 -- bytes packed behind what stands before them; 0 for more than five behind a 1
 unfoldable pub codeFrom : ℕ → Bytes → ℕ
 codeFrom a [] = a
