@@ -1,14 +1,16 @@
--- The children of a line are those of the table's two groups: a case for each word. Assumes nothing.
+-- The children of a line are those of the table's two groups: a case for each shape. Assumes nothing.
 use mathlib.Core.Path.{_≡_, refl, sym, _∙_, ap}
 use mathlib.Core.List.{List, [], _∷_, _++_, map, append-nil}
-use mathlib.Core.Bool.{Bool, true, false, cond}
+use mathlib.Core.Bool.{Bool, true, false, cond, _&&_}
 use Prim.Native.Nat.{ℕ, suc, zero, _+_, _-_, _*_, _/_, _%_, _≤_, _<_}
 use native.Mathlib.Omega.{arith}
-use lib.Dec.{eqb, ltb}
+use lib.Dec.{eqb, ltb, leb}
+use borrow.Author.Tests.{ltb-true, leb-true}
 use lib.ListN.{length, getD, replicate}
-use Rattle.semantics.specs.Sheet.{kids, Word, CYRS, B, END, MAT, CRE, MER, WHE, WIT, RET, UNW, SET, REM, DEL, CAL, PRO, SP, SL, SM, RP, RL, LAB, PARTS, PART, NOD, REL, NULL, BOOL, INT, FLT, STR, VAR, PAR, UNR, EXI, PROP, IDX, SLI, LIS, MAP, KEY, CALL, BIN, UNA, CASE, ISN, IN, PAT, LCP, PCP, LPR, MPR, COP, COM, SHO, ALI, Field, Place, AtFirst, AtBinding, AtClause, AtEnd, AtProjection, AtSetItem, AtRemoveItem, AtLabel, AtParts, AtPart, AtElement, AtEntry, AtItem, AtExpression, Role, plain, condition, answer, inner, low, high, present, armRoles, Want, at, wanted, row, rank}
-use Rattle.line.specs.Arrays.{classes, slots, groups, seconds}
-use Rattle.line.specs.Rows.{wordNo}
+use Rattle.semantics.specs.Sheet.{kids, Word, Shape, nothing, one, two, bounds, arms, times, timesThen, around, oneThen, oneTimes, Field, Place, AtFirst, AtBinding, AtClause, AtEnd, AtProjection, AtSetItem, AtRemoveItem, AtLabel, AtParts, AtPart, AtElement, AtEntry, AtItem, AtExpression, Role, plain, condition, answer, inner, low, high, present, armRoles, Want, at, wanted, row, rank}
+use Rattle.semantics.proofs.Words.{every, holds}
+use Rattle.line.specs.Arrays.{slotsOf, placeOf, group, groupOf, secondOf, slots, groups, seconds}
+use Rattle.line.specs.Rows.{wordNo, numbered}
 use Rattle.line.specs.Line.{most}
 use Rattle.hir.specs.Kids.{placeAt, groupSize, twoGroups, kidWants, level}
 
@@ -85,74 +87,187 @@ around-kids d zero n m b h e g = rw (e, g)
 around-kids d (suc zero) n m b h e g = rw (e, g)
 around-kids d (suc (suc t)) n m b h e g = absurd (omega arith)
 
-pattern-kids : (d t n m : ℕ) → t ≤ 1 → n ≡ 1 → m ≡ 1 + t → map (wanted d) (inner AtParts ∷ present t condition (plain ∷ [])) ≡ twoGroups n (at AtParts d) m (at AtExpression d)
-pattern-kids d zero n m h e g = rw (e, g)
-pattern-kids d (suc zero) n m h e g = rw (e, g)
-pattern-kids d (suc (suc t)) n m h e g = absurd (omega arith)
+pattern-kids : (q : Place) (d t n m : ℕ) → t ≤ 1 → n ≡ 1 → m ≡ 1 + t → map (wanted d) (inner q ∷ present t condition (plain ∷ [])) ≡ twoGroups n (at q d) m (at AtExpression d)
+pattern-kids q d zero n m h e g = rw (e, g)
+pattern-kids q d (suc zero) n m h e g = rw (e, g)
+pattern-kids q d (suc (suc t)) n m h e g = absurd (omega arith)
 
 predicate-kids : (d t n m : ℕ) (b : Want) → t ≤ 1 → n ≡ 1 + t → m ≡ 0 → map (wanted d) (plain ∷ present t plain []) ≡ twoGroups n (at AtExpression d) m b
 predicate-kids d zero n m b h e g = rw (e, g)
 predicate-kids d (suc zero) n m b h e g = rw (e, g)
 predicate-kids d (suc (suc t)) n m b h e g = absurd (omega arith)
 
-projected-kids : (d k n m : ℕ) → n ≡ 1 → m ≡ k → map (wanted d) (plain ∷ replicate k (inner AtItem)) ≡ twoGroups n (at AtExpression d) m (at AtItem d)
-projected-kids d k n m e g = rw (e, g) (ap (λ (l : List Want). at AtExpression d ∷ l) (map-replicate (wanted d) k (inner AtItem)))
+projected-kids : (d k : ℕ) (p : Role) (n m : ℕ) → n ≡ 1 → m ≡ k → map (wanted d) (plain ∷ replicate k p) ≡ twoGroups n (at AtExpression d) m (wanted d p)
+projected-kids d k p n m e g = rw (e, g) (ap (λ (l : List Want). at AtExpression d ∷ l) (map-replicate (wanted d) k p))
+
+-- ## By shapes
+
+wanted-at : (d : ℕ) (p : Role) → wanted d p ≡ at (placeOf p) d
+wanted-at d plain = refl
+wanted-at d condition = refl
+wanted-at d answer = refl
+wanted-at d (inner q) = refl
+
+place-rank : (q : Place) → placeAt (rank q) ≡ q
+unfolding placeAt rank
+place-rank q =
+    elim q [ AtFirst ↦ refl | AtBinding ↦ refl | AtClause ↦ refl | AtEnd ↦ refl | AtProjection ↦ refl | AtSetItem ↦ refl | AtRemoveItem ↦ refl | AtLabel ↦ refl | AtParts ↦ refl | AtPart ↦ refl | AtElement ↦ refl | AtEntry ↦ refl | AtItem ↦ refl | AtExpression ↦ refl ]
+
+-- the wants of two groups
+abbrev groupWants : ℕ → ℕ → ℕ → ℕ → ℕ → List Want
+groupWants g k c f d = twoGroups (groupSize g c f) (at (placeAt (g / 32)) d) (groupSize k c f) (at (placeAt (k / 32)) d)
+
+-- a group read back
+module _ (q : Place) (n per bit : ℕ) (a : n < 4) (b : per < 4) (e : bit < 2) where
+  group-place : (d : ℕ) → at (placeAt (group q n per bit / 32)) d ≡ at q d
+  group-place d = let z : group q n per bit / 32 ≡ rank q = omega arith in ap (λ (x : Place). at x d) (ap placeAt z ∙ place-rank q)
+
+  group-size : (c f : ℕ) → groupSize (group q n per bit) c f ≡ n + per * c + bit * (f % 2 + f / 2)
+  unfolding groupSize
+  group-size c f =
+      let x : group q n per bit / 8 % 4 ≡ n = omega arith in
+      let y : group q n per bit / 2 % 4 ≡ per = omega arith in
+      let z : group q n per bit % 2 ≡ bit = omega arith in
+      rw (x, y, z)
+
+-- the bits of a shape are bits, and its numbers are among the first seven
+okBits : Shape → List Field → Bool
+okBits nothing fs = true
+okBits two fs = true
+okBits bounds fs = leb (most fs 0) 3
+okBits arms fs = leb (most fs 0) 3
+okBits (one p) fs = true
+okBits (times i p) fs = true
+okBits (timesThen i p j) fs = ltb j 8 && leb (most fs j) 1
+okBits (around p j) fs = ltb j 8 && leb (most fs j) 1
+okBits (oneThen j) fs = ltb j 8 && leb (most fs j) 1
+okBits (oneTimes i p) fs = true
+
+both : (a b : Bool) → a && b ≡ true → (a ≡ true) × (b ≡ true)
+both true b e = (refl, e)
+both false b e = absurd (let z : _≡_ {A = ℕ} 0 1 = cc in omega arith)
+
+-- the numbers that a shape goes by
+module _ (ns : List ℕ) (fs : List Field) (h : (i : ℕ) → getD ns i 0 ≤ most fs i) where
+  bit-of : (j : ℕ) → ltb j 8 && leb (most fs j) 1 ≡ true → (j < 8) × (getD ns j 0 ≤ 1)
+  bit-of j o = let x = both (ltb j 8) (leb (most fs j) 1) o in (ltb-true j 8 (x .0), omega (arith, h j, leb-true (most fs j) 1 (x .1)))
+
+  bits-of : leb (most fs 0) 3 ≡ true → getD ns 0 0 ≤ 3
+  bits-of o = omega (arith, h 0, leb-true (most fs 0) 3 o)
+
+at-index : (ns : List ℕ) (a i : ℕ) → a ≡ i → getD ns a 0 ≡ getD ns i 0
+at-index ns a i e = ap (λ (k : ℕ). getD ns k 0) e
+
+small : {n : ℕ} → ltb n 4 ≡ true → n < 4
+small {n} e = ltb-true n 4 e
+
+-- two groups as the table has them
+module _ (q : Place) (n per bit : ℕ) (a : n < 4) (b : per < 4) (e : bit < 2) (q′ : Place) (n′ per′ bit′ : ℕ) (a′ : n′ < 4) (b′ : per′ < 4) (e′ : bit′ < 2) where
+  two-at : (c f d : ℕ) → twoGroups (n + per * c + bit * (f % 2 + f / 2)) (at q d) (n′ + per′ * c + bit′ * (f % 2 + f / 2)) (at q′ d) ≡ groupWants (group q n per bit) (group q′ n′ per′ bit′) c f d
+  two-at c f d = rw (group-size q n per bit a b e c f, group-size q′ n′ per′ bit′ a′ b′ e′ c f, group-place q n per bit a b e d, group-place q′ n′ per′ bit′ a′ b′ e′ d)
+
+-- one group
+module _ (q : Place) (n per bit : ℕ) (a : n < 4) (b : per < 4) (e : bit < 2) where
+  one-at : (c f d : ℕ) → twoGroups (n + per * c + bit * (f % 2 + f / 2)) (at q d) 0 (at AtFirst d) ≡ groupWants (group q n per bit) 0 c f d
+  unfolding rank groupSize placeAt
+  one-at c f d =
+      let z : 0 ≡ 0 + 0 * c + 0 * (f % 2 + f / 2) = omega arith in
+      ap (λ (m : ℕ). twoGroups (n + per * c + bit * (f % 2 + f / 2)) (at q d) m (at AtFirst d)) z ∙ two-at q n per bit a b e AtFirst 0 0 0 (omega arith) (omega arith) (omega arith) c f d
+
+shape-kids : (ns : List ℕ) (fs : List Field) → ((i : ℕ) → getD ns i 0 ≤ most fs i) → (s : Shape) → okBits s fs ≡ true → (d : ℕ)
+    → map (wanted d) (kids s ns) ≡ groupWants (groupOf s) (secondOf s) (getD ns (slotsOf s / 8) 0) (getD ns (slotsOf s % 8) 0) d
+unfolding okBits slotsOf groupOf secondOf groupSize rank
+shape-kids ns fs h nothing o d = let c = getD ns 7 0 in none-kids d (0 + 0 * c + 0 * (c % 2 + c / 2)) 0 (at AtFirst d) (at AtFirst d) (omega arith) refl ∙ one-at AtFirst 0 0 0 (omega arith) (omega arith) (omega arith) c c d
+shape-kids ns fs h two o d = let c = getD ns 7 0 in two-kids d (2 + 0 * c + 0 * (c % 2 + c / 2)) 0 (at AtExpression d) (at AtFirst d) (omega arith) refl ∙ one-at AtExpression 2 0 0 (omega arith) (omega arith) (omega arith) c c d
+shape-kids ns fs h bounds o d =
+    let c = getD ns 7 0 in
+    let f = getD ns 0 0 in
+    slice-kids d f (1 + 0 * c + 1 * (f % 2 + f / 2)) 0 (at AtFirst d) (bits-of ns fs h o) (omega arith) refl ∙ one-at AtExpression 1 0 1 (omega arith) (omega arith) (omega arith) c f d
+shape-kids ns fs h arms o d =
+    let c = getD ns 1 0 in
+    let f = getD ns 0 0 in
+    case-kids d f c (0 + 2 * c + 1 * (f % 2 + f / 2)) 0 (at AtFirst d) (bits-of ns fs h o) (omega arith) refl ∙ one-at AtExpression 0 2 1 (omega arith) (omega arith) (omega arith) c f d
+shape-kids ns fs h (one p) o d =
+    let c = getD ns 7 0 in
+    ap (λ (w : Want). w ∷ []) (wanted-at d p) ∙ (one-kid d (1 + 0 * c + 0 * (c % 2 + c / 2)) 0 (at (placeOf p) d) (at AtFirst d) (omega arith) refl ∙ one-at (placeOf p) 1 0 0 (omega arith) (omega arith) (omega arith) c c d)
+shape-kids ns fs h (times i p) o d =
+    let c = getD ns ((7 + 8 * i) / 8) 0 in
+    let f = getD ns ((7 + 8 * i) % 8) 0 in
+    let z : c ≡ getD ns i 0 = at-index ns ((7 + 8 * i) / 8) i (omega arith) in
+    let n = 0 + 1 * c + 0 * (f % 2 + f / 2) in
+    many-kids d (getD ns i 0) p n 0 (at AtFirst d) (omega (arith, z)) refl ∙ (ap (λ (w : Want). twoGroups n w 0 (at AtFirst d)) (wanted-at d p) ∙ one-at (placeOf p) 0 1 0 (omega arith) (omega arith) (omega arith) c f d)
+shape-kids ns fs h (timesThen i p j) o d =
+    let b = bit-of ns fs h j o in
+    let j8 : j < 8 = b .0 in
+    let c = getD ns ((j + 8 * i) / 8) 0 in
+    let f = getD ns ((j + 8 * i) % 8) 0 in
+    let y : c ≡ getD ns i 0 = at-index ns ((j + 8 * i) / 8) i (omega arith) in
+    let z : f ≡ getD ns j 0 = at-index ns ((j + 8 * i) % 8) j (omega arith) in
+    let n = 0 + 1 * c + 0 * (f % 2 + f / 2) in
+    let m = 0 + 0 * c + 1 * (f % 2 + f / 2) in
+    then-kids d (getD ns i 0) (getD ns j 0) p n m (b .1) (omega (arith, y)) (omega (arith, z, b .1))
+    ∙ (ap (λ (w : Want). twoGroups n w m (at AtExpression d)) (wanted-at d p)
+    ∙ two-at (placeOf p) 0 1 0 (omega arith) (omega arith) (omega arith) AtExpression 0 0 1 (omega arith) (omega arith) (omega arith) c f d)
+shape-kids ns fs h (around p j) o d = around-at p
+  where
+    b : (j < 8) × (getD ns j 0 ≤ 1)
+    b = bit-of ns fs h j o
+
+    c : ℕ
+    c = getD ns ((j + 8 * 7) / 8) 0
+
+    f : ℕ
+    f = getD ns ((j + 8 * 7) % 8) 0
+
+    z : f ≡ getD ns j 0
+    z = let j8 : j < 8 = b .0 in at-index ns ((j + 8 * 7) % 8) j (omega arith)
+
+    flat : twoGroups (2 + 0 * c + 1 * (f % 2 + f / 2)) (at AtExpression d) 0 (at AtFirst d) ≡ groupWants (group AtExpression 2 0 1) 0 c f d
+    flat = one-at AtExpression 2 0 1 (omega arith) (omega arith) (omega arith) c f d
+
+    around-at : (p : Role) → map (wanted d) (kids (around p j) ns) ≡ groupWants (groupOf (around p j)) (secondOf (around p j)) c f d
+    around-at plain = around-kids d (getD ns j 0) (2 + 0 * c + 1 * (f % 2 + f / 2)) 0 (at AtFirst d) (b .1) (omega (arith, z, b .1)) refl ∙ flat
+    around-at condition = around-kids d (getD ns j 0) (2 + 0 * c + 1 * (f % 2 + f / 2)) 0 (at AtFirst d) (b .1) (omega (arith, z, b .1)) refl ∙ flat
+    around-at answer = around-kids d (getD ns j 0) (2 + 0 * c + 1 * (f % 2 + f / 2)) 0 (at AtFirst d) (b .1) (omega (arith, z, b .1)) refl ∙ flat
+    around-at (inner q) =
+        pattern-kids q d (getD ns j 0) (1 + 0 * c + 0 * (f % 2 + f / 2)) (1 + 0 * c + 1 * (f % 2 + f / 2)) (b .1) (omega arith) (omega (arith, z, b .1))
+        ∙ two-at q 1 0 0 (omega arith) (omega arith) (omega arith) AtExpression 1 0 1 (omega arith) (omega arith) (omega arith) c f d
+shape-kids ns fs h (oneThen j) o d =
+    let b = bit-of ns fs h j o in
+    let j8 : j < 8 = b .0 in
+    let c = getD ns ((j + 8 * 7) / 8) 0 in
+    let f = getD ns ((j + 8 * 7) % 8) 0 in
+    let z : f ≡ getD ns j 0 = at-index ns ((j + 8 * 7) % 8) j (omega arith) in
+    predicate-kids d (getD ns j 0) (1 + 0 * c + 1 * (f % 2 + f / 2)) 0 (at AtFirst d) (b .1) (omega (arith, z, b .1)) refl ∙ one-at AtExpression 1 0 1 (omega arith) (omega arith) (omega arith) c f d
+shape-kids ns fs h (oneTimes i p) o d =
+    let c = getD ns ((7 + 8 * i) / 8) 0 in
+    let f = getD ns ((7 + 8 * i) % 8) 0 in
+    let z : c ≡ getD ns i 0 = at-index ns ((7 + 8 * i) / 8) i (omega arith) in
+    let n = 1 + 0 * c + 0 * (f % 2 + f / 2) in
+    let m = 0 + 1 * c + 0 * (f % 2 + f / 2) in
+    projected-kids d (getD ns i 0) p n m (omega arith) (omega (arith, z))
+    ∙ (ap (λ (w : Want). twoGroups n (at AtExpression d) m w) (wanted-at d p)
+    ∙ two-at AtExpression 1 0 0 (omega arith) (omega arith) (omega arith) (placeOf p) 0 1 0 (omega arith) (omega arith) (omega arith) c f d)
+
+-- ## The table
+
+slots-rule : (v : Word) → getD slots (wordNo v) 0 ≡ slotsOf (row v .under)
+unfolding slots slotsOf numbered wordNo row
+slots-rule v = every (λ (v : Word). getD slots (wordNo v) 0) (λ (v : Word). slotsOf (row v .under)) refl v
+
+groups-rule : (v : Word) → getD groups (wordNo v) 0 ≡ groupOf (row v .under)
+unfolding groups groupOf numbered wordNo row rank
+groups-rule v = every (λ (v : Word). getD groups (wordNo v) 0) (λ (v : Word). groupOf (row v .under)) refl v
+
+seconds-rule : (v : Word) → getD seconds (wordNo v) 0 ≡ secondOf (row v .under)
+unfolding seconds secondOf numbered wordNo row rank
+seconds-rule v = every (λ (v : Word). getD seconds (wordNo v) 0) (λ (v : Word). secondOf (row v .under)) refl v
+
+bits-rule : (v : Word) → okBits (row v .under) (row v .fields) ≡ true
+unfolding okBits most row
+bits-rule v = holds (λ (v : Word). okBits (row v .under) (row v .fields)) refl v
 
 pub kids-rule : (v : Word) (ns : List ℕ) (d : ℕ) → ((i : ℕ) → getD ns i 0 ≤ most (row v .fields) i)
     → map (wanted d) (kids (row v .under) ns) ≡ kidWants (wordNo v) (getD ns (getD slots (wordNo v) 0 / 8) 0) (getD ns (getD slots (wordNo v) 0 % 8) 0) d
-unfolding row wordNo slots groups seconds kidWants placeAt groupSize most
-kids-rule CYRS ns d h = none-kids d (groupSize 0 (getD ns 7 0) (getD ns 7 0)) (groupSize 0 (getD ns 7 0) (getD ns 7 0)) (at AtFirst d) (at AtFirst d) (omega arith) (omega arith)
-kids-rule B ns d h = none-kids d (groupSize 0 (getD ns 7 0) (getD ns 7 0)) (groupSize 0 (getD ns 7 0) (getD ns 7 0)) (at AtFirst d) (at AtFirst d) (omega arith) (omega arith)
-kids-rule END ns d h = none-kids d (groupSize 0 (getD ns 7 0) (getD ns 7 0)) (groupSize 0 (getD ns 7 0) (getD ns 7 0)) (at AtFirst d) (at AtFirst d) (omega arith) (omega arith)
-kids-rule MAT ns d h = one-kid d (groupSize 264 (getD ns 7 0) (getD ns 7 0)) (groupSize 0 (getD ns 7 0) (getD ns 7 0)) (at AtParts d) (at AtFirst d) (omega arith) (omega arith)
-kids-rule CRE ns d h = one-kid d (groupSize 264 (getD ns 7 0) (getD ns 7 0)) (groupSize 0 (getD ns 7 0) (getD ns 7 0)) (at AtParts d) (at AtFirst d) (omega arith) (omega arith)
-kids-rule MER ns d h = one-kid d (groupSize 264 (getD ns 7 0) (getD ns 7 0)) (groupSize 0 (getD ns 7 0) (getD ns 7 0)) (at AtParts d) (at AtFirst d) (omega arith) (omega arith)
-kids-rule WHE ns d h = one-kid d (groupSize 424 (getD ns 7 0) (getD ns 7 0)) (groupSize 0 (getD ns 7 0) (getD ns 7 0)) (at AtExpression d) (at AtFirst d) (omega arith) (omega arith)
-kids-rule WIT ns d h = then-kids d (getD ns 1 0) (getD ns 0 0) (inner AtProjection) (groupSize 130 (getD ns 1 0) (getD ns 0 0)) (groupSize 417 (getD ns 1 0) (getD ns 0 0)) (h 0) (omega (arith, h 0)) (omega (arith, h 0))
-kids-rule RET ns d h = many-kids d (getD ns 1 0) (inner AtProjection) (groupSize 130 (getD ns 1 0) (getD ns 7 0)) (groupSize 0 (getD ns 1 0) (getD ns 7 0)) (at AtFirst d) (omega arith) (omega arith)
-kids-rule UNW ns d h = one-kid d (groupSize 424 (getD ns 7 0) (getD ns 7 0)) (groupSize 0 (getD ns 7 0) (getD ns 7 0)) (at AtExpression d) (at AtFirst d) (omega arith) (omega arith)
-kids-rule SET ns d h = many-kids d (getD ns 0 0) (inner AtSetItem) (groupSize 162 (getD ns 0 0) (getD ns 7 0)) (groupSize 0 (getD ns 0 0) (getD ns 7 0)) (at AtFirst d) (omega arith) (omega arith)
-kids-rule REM ns d h = many-kids d (getD ns 0 0) (inner AtRemoveItem) (groupSize 194 (getD ns 0 0) (getD ns 7 0)) (groupSize 0 (getD ns 0 0) (getD ns 7 0)) (at AtFirst d) (omega arith) (omega arith)
-kids-rule DEL ns d h = many-kids d (getD ns 1 0) plain (groupSize 418 (getD ns 1 0) (getD ns 7 0)) (groupSize 0 (getD ns 1 0) (getD ns 7 0)) (at AtFirst d) (omega arith) (omega arith)
-kids-rule CAL ns d h = many-kids d (getD ns 1 0) plain (groupSize 418 (getD ns 1 0) (getD ns 7 0)) (groupSize 0 (getD ns 1 0) (getD ns 7 0)) (at AtFirst d) (omega arith) (omega arith)
-kids-rule PRO ns d h = one-kid d (groupSize 424 (getD ns 7 0) (getD ns 7 0)) (groupSize 0 (getD ns 7 0) (getD ns 7 0)) (at AtExpression d) (at AtFirst d) (omega arith) (omega arith)
-kids-rule SP ns d h = two-kids d (groupSize 432 (getD ns 7 0) (getD ns 7 0)) (groupSize 0 (getD ns 7 0) (getD ns 7 0)) (at AtExpression d) (at AtFirst d) (omega arith) (omega arith)
-kids-rule SL ns d h = many-kids d (getD ns 0 0) (inner AtLabel) (groupSize 226 (getD ns 0 0) (getD ns 7 0)) (groupSize 0 (getD ns 0 0) (getD ns 7 0)) (at AtFirst d) (omega arith) (omega arith)
-kids-rule SM ns d h = one-kid d (groupSize 424 (getD ns 7 0) (getD ns 7 0)) (groupSize 0 (getD ns 7 0) (getD ns 7 0)) (at AtExpression d) (at AtFirst d) (omega arith) (omega arith)
-kids-rule RP ns d h = one-kid d (groupSize 424 (getD ns 7 0) (getD ns 7 0)) (groupSize 0 (getD ns 7 0) (getD ns 7 0)) (at AtExpression d) (at AtFirst d) (omega arith) (omega arith)
-kids-rule RL ns d h = many-kids d (getD ns 0 0) (inner AtLabel) (groupSize 226 (getD ns 0 0) (getD ns 7 0)) (groupSize 0 (getD ns 0 0) (getD ns 7 0)) (at AtFirst d) (omega arith) (omega arith)
-kids-rule LAB ns d h = none-kids d (groupSize 0 (getD ns 7 0) (getD ns 7 0)) (groupSize 0 (getD ns 7 0) (getD ns 7 0)) (at AtFirst d) (at AtFirst d) (omega arith) (omega arith)
-kids-rule PARTS ns d h = many-kids d (getD ns 0 0) (inner AtPart) (groupSize 290 (getD ns 0 0) (getD ns 7 0)) (groupSize 0 (getD ns 0 0) (getD ns 7 0)) (at AtFirst d) (omega arith) (omega arith)
-kids-rule PART ns d h = many-kids d (getD ns 1 0) (inner AtElement) (groupSize 322 (getD ns 1 0) (getD ns 7 0)) (groupSize 0 (getD ns 1 0) (getD ns 7 0)) (at AtFirst d) (omega arith) (omega arith)
-kids-rule NOD ns d h = then-kids d (getD ns 1 0) (getD ns 0 0) (inner AtLabel) (groupSize 226 (getD ns 1 0) (getD ns 0 0)) (groupSize 417 (getD ns 1 0) (getD ns 0 0)) (h 0) (omega (arith, h 0)) (omega (arith, h 0))
-kids-rule REL ns d h = then-kids d (getD ns 5 0) (getD ns 4 0) (inner AtLabel) (groupSize 226 (getD ns 5 0) (getD ns 4 0)) (groupSize 417 (getD ns 5 0) (getD ns 4 0)) (h 4) (omega (arith, h 4)) (omega (arith, h 4))
-kids-rule NULL ns d h = none-kids d (groupSize 0 (getD ns 7 0) (getD ns 7 0)) (groupSize 0 (getD ns 7 0) (getD ns 7 0)) (at AtFirst d) (at AtFirst d) (omega arith) (omega arith)
-kids-rule BOOL ns d h = none-kids d (groupSize 0 (getD ns 7 0) (getD ns 7 0)) (groupSize 0 (getD ns 7 0) (getD ns 7 0)) (at AtFirst d) (at AtFirst d) (omega arith) (omega arith)
-kids-rule INT ns d h = none-kids d (groupSize 0 (getD ns 7 0) (getD ns 7 0)) (groupSize 0 (getD ns 7 0) (getD ns 7 0)) (at AtFirst d) (at AtFirst d) (omega arith) (omega arith)
-kids-rule FLT ns d h = none-kids d (groupSize 0 (getD ns 7 0) (getD ns 7 0)) (groupSize 0 (getD ns 7 0) (getD ns 7 0)) (at AtFirst d) (at AtFirst d) (omega arith) (omega arith)
-kids-rule STR ns d h = none-kids d (groupSize 0 (getD ns 7 0) (getD ns 7 0)) (groupSize 0 (getD ns 7 0) (getD ns 7 0)) (at AtFirst d) (at AtFirst d) (omega arith) (omega arith)
-kids-rule VAR ns d h = none-kids d (groupSize 0 (getD ns 7 0) (getD ns 7 0)) (groupSize 0 (getD ns 7 0) (getD ns 7 0)) (at AtFirst d) (at AtFirst d) (omega arith) (omega arith)
-kids-rule PAR ns d h = none-kids d (groupSize 0 (getD ns 7 0) (getD ns 7 0)) (groupSize 0 (getD ns 7 0) (getD ns 7 0)) (at AtFirst d) (at AtFirst d) (omega arith) (omega arith)
-kids-rule UNR ns d h = none-kids d (groupSize 0 (getD ns 7 0) (getD ns 7 0)) (groupSize 0 (getD ns 7 0) (getD ns 7 0)) (at AtFirst d) (at AtFirst d) (omega arith) (omega arith)
-kids-rule EXI ns d h = none-kids d (groupSize 0 (getD ns 7 0) (getD ns 7 0)) (groupSize 0 (getD ns 7 0) (getD ns 7 0)) (at AtFirst d) (at AtFirst d) (omega arith) (omega arith)
-kids-rule PROP ns d h = one-kid d (groupSize 424 (getD ns 7 0) (getD ns 7 0)) (groupSize 0 (getD ns 7 0) (getD ns 7 0)) (at AtExpression d) (at AtFirst d) (omega arith) (omega arith)
-kids-rule IDX ns d h = two-kids d (groupSize 432 (getD ns 7 0) (getD ns 7 0)) (groupSize 0 (getD ns 7 0) (getD ns 7 0)) (at AtExpression d) (at AtFirst d) (omega arith) (omega arith)
-kids-rule SLI ns d h = slice-kids d (getD ns 0 0) (groupSize 425 (getD ns 7 0) (getD ns 0 0)) (groupSize 0 (getD ns 7 0) (getD ns 0 0)) (at AtFirst d) (h 0) (omega (arith, h 0)) (omega (arith, h 0))
-kids-rule LIS ns d h = many-kids d (getD ns 0 0) plain (groupSize 418 (getD ns 0 0) (getD ns 7 0)) (groupSize 0 (getD ns 0 0) (getD ns 7 0)) (at AtFirst d) (omega arith) (omega arith)
-kids-rule MAP ns d h = many-kids d (getD ns 0 0) (inner AtEntry) (groupSize 354 (getD ns 0 0) (getD ns 7 0)) (groupSize 0 (getD ns 0 0) (getD ns 7 0)) (at AtFirst d) (omega arith) (omega arith)
-kids-rule KEY ns d h = one-kid d (groupSize 424 (getD ns 7 0) (getD ns 7 0)) (groupSize 0 (getD ns 7 0) (getD ns 7 0)) (at AtExpression d) (at AtFirst d) (omega arith) (omega arith)
-kids-rule CALL ns d h = many-kids d (getD ns 1 0) plain (groupSize 418 (getD ns 1 0) (getD ns 7 0)) (groupSize 0 (getD ns 1 0) (getD ns 7 0)) (at AtFirst d) (omega arith) (omega arith)
-kids-rule BIN ns d h = two-kids d (groupSize 432 (getD ns 7 0) (getD ns 7 0)) (groupSize 0 (getD ns 7 0) (getD ns 7 0)) (at AtExpression d) (at AtFirst d) (omega arith) (omega arith)
-kids-rule UNA ns d h = one-kid d (groupSize 424 (getD ns 7 0) (getD ns 7 0)) (groupSize 0 (getD ns 7 0) (getD ns 7 0)) (at AtExpression d) (at AtFirst d) (omega arith) (omega arith)
-kids-rule CASE ns d h = case-kids d (getD ns 0 0) (getD ns 1 0) (groupSize 421 (getD ns 1 0) (getD ns 0 0)) (groupSize 0 (getD ns 1 0) (getD ns 0 0)) (at AtFirst d) (h 0) (omega (arith, h 0)) (omega (arith, h 0))
-kids-rule ISN ns d h = one-kid d (groupSize 424 (getD ns 7 0) (getD ns 7 0)) (groupSize 0 (getD ns 7 0) (getD ns 7 0)) (at AtExpression d) (at AtFirst d) (omega arith) (omega arith)
-kids-rule IN ns d h = two-kids d (groupSize 432 (getD ns 7 0) (getD ns 7 0)) (groupSize 0 (getD ns 7 0) (getD ns 7 0)) (at AtExpression d) (at AtFirst d) (omega arith) (omega arith)
-kids-rule PAT ns d h = one-kid d (groupSize 264 (getD ns 7 0) (getD ns 7 0)) (groupSize 0 (getD ns 7 0) (getD ns 7 0)) (at AtParts d) (at AtFirst d) (omega arith) (omega arith)
-kids-rule LCP ns d h = around-kids d (getD ns 0 0) (groupSize 433 (getD ns 7 0) (getD ns 0 0)) (groupSize 0 (getD ns 7 0) (getD ns 0 0)) (at AtFirst d) (h 0) (omega (arith, h 0)) (omega (arith, h 0))
-kids-rule PCP ns d h = pattern-kids d (getD ns 0 0) (groupSize 264 (getD ns 7 0) (getD ns 0 0)) (groupSize 425 (getD ns 7 0) (getD ns 0 0)) (h 0) (omega (arith, h 0)) (omega (arith, h 0))
-kids-rule LPR ns d h = predicate-kids d (getD ns 1 0) (groupSize 425 (getD ns 7 0) (getD ns 1 0)) (groupSize 0 (getD ns 7 0) (getD ns 1 0)) (at AtFirst d) (h 1) (omega (arith, h 1)) (omega (arith, h 1))
-kids-rule MPR ns d h = projected-kids d (getD ns 0 0) (groupSize 424 (getD ns 0 0) (getD ns 7 0)) (groupSize 386 (getD ns 0 0) (getD ns 7 0)) (omega arith) (omega arith)
-kids-rule COP ns d h = none-kids d (groupSize 0 (getD ns 7 0) (getD ns 7 0)) (groupSize 0 (getD ns 7 0) (getD ns 7 0)) (at AtFirst d) (at AtFirst d) (omega arith) (omega arith)
-kids-rule COM ns d h = one-kid d (groupSize 424 (getD ns 7 0) (getD ns 7 0)) (groupSize 0 (getD ns 7 0) (getD ns 7 0)) (at AtExpression d) (at AtFirst d) (omega arith) (omega arith)
-kids-rule SHO ns d h = none-kids d (groupSize 0 (getD ns 7 0) (getD ns 7 0)) (groupSize 0 (getD ns 7 0) (getD ns 7 0)) (at AtFirst d) (at AtFirst d) (omega arith) (omega arith)
-kids-rule ALI ns d h = one-kid d (groupSize 424 (getD ns 7 0) (getD ns 7 0)) (groupSize 0 (getD ns 7 0) (getD ns 7 0)) (at AtExpression d) (at AtFirst d) (omega arith) (omega arith)
+unfolding kidWants
+kids-rule v ns d h = rw (slots-rule v, groups-rule v, seconds-rule v) (shape-kids ns (row v .fields) h (row v .under) (bits-rule v) d)

@@ -8,12 +8,14 @@ use native.Mathlib.Omega.{arith}
 use native.Mathlib.Nat.{add-zero}
 use lib.Dec.{eqb, ltb}
 use lib.ListN.{length, getD, drop, replicate, length-drop, length-append}
-use borrow.Author.Tests.{eqb-true}
+use borrow.Author.Tests.{eqb-true, ltb-true, eq-eqb}
 use lib.Seq.{drop-drop}
 use Rattle.semantics.specs.Limits.{depthLimit}
 use Rattle.semantics.specs.Bytes.{Bytes, front, split}
-use Rattle.semantics.specs.Sheet.{kids, Word, CYRS, B, END, MAT, CRE, MER, WHE, WIT, RET, UNW, SET, REM, DEL, CAL, PRO, SP, SL, SM, RP, RL, LAB, PARTS, PART, NOD, REL, NULL, BOOL, INT, FLT, STR, VAR, PAR, UNR, EXI, PROP, IDX, SLI, LIS, MAP, KEY, CALL, BIN, UNA, CASE, ISN, IN, PAT, LCP, PCP, LPR, MPR, COP, COM, SHO, ALI, Place, AtProjection, AtSetItem, AtRemoveItem, AtLabel, AtParts, AtPart, AtElement, AtEntry, AtItem, AtExpression, Role, plain, condition, answer, inner, present, armRoles, deeper, Head, variableOf, rank, place, row, Read, bad, ok, andThen, Field, variable, letter, Value, wrong, number, variableV, value, into, fill, bare, words, wordIn, Want, first, clauses, bindings, at, wanted, fits, beyond, under, after, roles, arity, readLine, Sheet, refused, heads, add, check, sheet}
+use Rattle.semantics.specs.Sheet.{kids, Word, Place, AtProjection, AtSetItem, AtRemoveItem, AtLabel, AtParts, AtPart, AtElement, AtEntry, AtItem, AtExpression, Role, plain, condition, answer, inner, present, armRoles, deeper, Head, variableOf, rank, place, row, Read, bad, ok, andThen, Field, variable, letter, Value, wrong, number, variableV, value, into, fill, bare, words, wordIn, Want, first, clauses, bindings, at, wanted, fits, beyond, under, after, roles, arity, readLine, Sheet, refused, heads, add, check, sheet}
 use Rattle.semantics.specs.Walk.{Env, Res, step, walk}
+use Rattle.semantics.proofs.All.{All, empty, also}
+use Rattle.semantics.proofs.Words.{every-where, holds, named, each, kids-each}
 use Rattle.semantics.proofs.Split.{split-inj}
 use Rattle.line.specs.Line.{Plain, unknown, known, wordSays, piecesSay, lineSays, placed, HeadIs, SaysAs, ReadAs}
 use Rattle.line.specs.declared.line.Head.{Head as Seen}
@@ -270,96 +272,30 @@ all-in : {a b : List Want} → AllIn a → AllIn b → AllIn (a ++ b)
 all-in none-in y = y
 all-in (one-in i x) y = one-in i (all-in x y)
 
--- roles whose wants are inside a clause
-data RolesIn : List Role → Type 0 where
-  no-role : RolesIn []
-  a-role : (p : Role) {ps : List Role} → ((d : ℕ) → Inner (wanted d p)) → RolesIn ps → RolesIn (p ∷ ps)
-
-wants-in : {ps : List Role} (d : ℕ) → RolesIn ps → AllIn (map (wanted d) ps)
-wants-in d no-role = none-in
-wants-in d (a-role p i x) = one-in (i d) (wants-in d x)
-
+-- a role whose want is inside a clause
 abbrev Good : Role → Type 0
 Good p = (d : ℕ) → Inner (wanted d p)
 
-times-in : (k : ℕ) (p : Role) → Good p → {r : List Role} → RolesIn r → RolesIn (replicate k p ++ r)
-times-in zero p g x = x
-times-in (suc k) p g x = a-role p g (times-in k p g x)
+goodRole : Role → Bool
+goodRole plain = true
+goodRole condition = true
+goodRole answer = true
+goodRole (inner q) = ltb 3 (rank q)
 
-only-in : (k : ℕ) (p : Role) → Good p → RolesIn (replicate k p)
-only-in zero p g = no-role
-only-in (suc k) p g = a-role p g (only-in k p g)
+good-true : (p : Role) → goodRole p ≡ true → Good p
+unfolding goodRole rank
+good-true plain e d = omega arith
+good-true condition e d = omega arith
+good-true answer e d = omega arith
+good-true (inner q) e d = ltb-true 3 (rank q) e
 
-present-in : (k : ℕ) (p : Role) → Good p → {r : List Role} → RolesIn r → RolesIn (present k p r)
-present-in zero p g x = x
-present-in (suc k) p g x = a-role p g x
+roles-in : (v : Word) (ns : List ℕ) → All Good (kids (row v .under) ns)
+unfolding goodRole each row rank
+roles-in v ns = kids-each goodRole good-true (row v .under) (holds (λ (v : Word). each goodRole (named (row v .under))) refl v) ns
 
-arms-in : (k : ℕ) (c : Role) → Good c → Good answer → {r : List Role} → RolesIn r → RolesIn (armRoles c k r)
-unfolding armRoles
-arms-in zero c g a x = x
-arms-in (suc k) c g a x = a-role c g (a-role answer a (arms-in k c g a x))
-
-if-in : (b : Bool) (p q : Role) → Good p → Good q → Good (cond b p q)
-if-in true p q g h = g
-if-in false p q g h = h
-
-roles-in : (v : Word) (ns : List ℕ) → RolesIn (kids (row v .under) ns)
-unfolding row rank
-roles-in CYRS ns = no-role
-roles-in B ns = no-role
-roles-in END ns = no-role
-roles-in MAT ns = a-role (inner AtParts) (λ d. omega arith) no-role
-roles-in CRE ns = a-role (inner AtParts) (λ d. omega arith) no-role
-roles-in MER ns = a-role (inner AtParts) (λ d. omega arith) no-role
-roles-in WHE ns = a-role plain (λ d. omega arith) no-role
-roles-in WIT ns = times-in (getD ns 1 0) (inner AtProjection) (λ d. omega arith) (present-in (getD ns 0 0) plain (λ d. omega arith) no-role)
-roles-in RET ns = only-in (getD ns 1 0) (inner AtProjection) (λ d. omega arith)
-roles-in UNW ns = a-role plain (λ d. omega arith) no-role
-roles-in SET ns = only-in (getD ns 0 0) (inner AtSetItem) (λ d. omega arith)
-roles-in REM ns = only-in (getD ns 0 0) (inner AtRemoveItem) (λ d. omega arith)
-roles-in DEL ns = only-in (getD ns 1 0) plain (λ d. omega arith)
-roles-in CAL ns = only-in (getD ns 1 0) plain (λ d. omega arith)
-roles-in PRO ns = a-role plain (λ d. omega arith) no-role
-roles-in SP ns = a-role plain (λ d. omega arith) (a-role plain (λ d. omega arith) no-role)
-roles-in SL ns = only-in (getD ns 0 0) (inner AtLabel) (λ d. omega arith)
-roles-in SM ns = a-role plain (λ d. omega arith) no-role
-roles-in RP ns = a-role plain (λ d. omega arith) no-role
-roles-in RL ns = only-in (getD ns 0 0) (inner AtLabel) (λ d. omega arith)
-roles-in LAB ns = no-role
-roles-in PARTS ns = only-in (getD ns 0 0) (inner AtPart) (λ d. omega arith)
-roles-in PART ns = only-in (getD ns 1 0) (inner AtElement) (λ d. omega arith)
-roles-in NOD ns = times-in (getD ns 1 0) (inner AtLabel) (λ d. omega arith) (present-in (getD ns 0 0) plain (λ d. omega arith) no-role)
-roles-in REL ns = times-in (getD ns 5 0) (inner AtLabel) (λ d. omega arith) (present-in (getD ns 4 0) plain (λ d. omega arith) no-role)
-roles-in NULL ns = no-role
-roles-in BOOL ns = no-role
-roles-in INT ns = no-role
-roles-in FLT ns = no-role
-roles-in STR ns = no-role
-roles-in VAR ns = no-role
-roles-in PAR ns = no-role
-roles-in UNR ns = no-role
-roles-in EXI ns = no-role
-roles-in PROP ns = a-role plain (λ d. omega arith) no-role
-roles-in IDX ns = a-role plain (λ d. omega arith) (a-role plain (λ d. omega arith) no-role)
-roles-in SLI ns = a-role plain (λ d. omega arith) (present-in (getD ns 0 0 % 2) plain (λ d. omega arith) (present-in (getD ns 0 0 / 2) plain (λ d. omega arith) no-role))
-roles-in LIS ns = only-in (getD ns 0 0) plain (λ d. omega arith)
-roles-in MAP ns = only-in (getD ns 0 0) (inner AtEntry) (λ d. omega arith)
-roles-in KEY ns = a-role plain (λ d. omega arith) no-role
-roles-in CALL ns = only-in (getD ns 1 0) plain (λ d. omega arith)
-roles-in BIN ns = a-role plain (λ d. omega arith) (a-role plain (λ d. omega arith) no-role)
-roles-in UNA ns = a-role plain (λ d. omega arith) no-role
-roles-in CASE ns = present-in (getD ns 0 0 % 2) plain (λ d. omega arith) (arms-in (getD ns 1 0) (cond (eqb (getD ns 0 0 % 2) 0) condition plain) (if-in (eqb (getD ns 0 0 % 2) 0) condition plain (λ d. omega arith) (λ d. omega arith)) (λ d. omega arith) (present-in (getD ns 0 0 / 2) answer (λ d. omega arith) no-role))
-roles-in ISN ns = a-role plain (λ d. omega arith) no-role
-roles-in IN ns = a-role plain (λ d. omega arith) (a-role plain (λ d. omega arith) no-role)
-roles-in PAT ns = a-role (inner AtParts) (λ d. omega arith) no-role
-roles-in LCP ns = a-role plain (λ d. omega arith) (present-in (getD ns 0 0) condition (λ d. omega arith) (a-role plain (λ d. omega arith) no-role))
-roles-in PCP ns = a-role (inner AtParts) (λ d. omega arith) (present-in (getD ns 0 0) condition (λ d. omega arith) (a-role plain (λ d. omega arith) no-role))
-roles-in LPR ns = a-role plain (λ d. omega arith) (present-in (getD ns 1 0) plain (λ d. omega arith) no-role)
-roles-in MPR ns = a-role plain (λ d. omega arith) (only-in (getD ns 0 0) (inner AtItem) (λ d. omega arith))
-roles-in COP ns = no-role
-roles-in COM ns = a-role plain (λ d. omega arith) no-role
-roles-in SHO ns = no-role
-roles-in ALI ns = a-role plain (λ d. omega arith) no-role
+wants-in : {ps : List Role} (d : ℕ) → All Good ps → AllIn (map (wanted d) ps)
+wants-in d empty = none-in
+wants-in d (also i x) = one-in (i d) (wants-in d x)
 
 -- a line inside a clause: nothing follows it but what hangs under it
 inner-rank : (w : Want) (h : Head) → Inner w → fits w (rank (place h)) ≡ true → 3 < rank (place h)
@@ -392,61 +328,7 @@ met-walk {ks = ks} (one-in i is) (meets {w = w} {ws = ws} {h = h} {hs = hs} f g 
 
 bind-fields : (v : Word) → rank (row v .place) ≡ 1 → row v .fields ≡ variable ∷ letter ∷ []
 unfolding row rank
-bind-fields CYRS e = absurd (omega arith)
-bind-fields B e = refl
-bind-fields END e = absurd (omega arith)
-bind-fields MAT e = absurd (omega arith)
-bind-fields CRE e = absurd (omega arith)
-bind-fields MER e = absurd (omega arith)
-bind-fields WHE e = absurd (omega arith)
-bind-fields WIT e = absurd (omega arith)
-bind-fields RET e = absurd (omega arith)
-bind-fields UNW e = absurd (omega arith)
-bind-fields SET e = absurd (omega arith)
-bind-fields REM e = absurd (omega arith)
-bind-fields DEL e = absurd (omega arith)
-bind-fields CAL e = absurd (omega arith)
-bind-fields PRO e = absurd (omega arith)
-bind-fields SP e = absurd (omega arith)
-bind-fields SL e = absurd (omega arith)
-bind-fields SM e = absurd (omega arith)
-bind-fields RP e = absurd (omega arith)
-bind-fields RL e = absurd (omega arith)
-bind-fields LAB e = absurd (omega arith)
-bind-fields PARTS e = absurd (omega arith)
-bind-fields PART e = absurd (omega arith)
-bind-fields NOD e = absurd (omega arith)
-bind-fields REL e = absurd (omega arith)
-bind-fields NULL e = absurd (omega arith)
-bind-fields BOOL e = absurd (omega arith)
-bind-fields INT e = absurd (omega arith)
-bind-fields FLT e = absurd (omega arith)
-bind-fields STR e = absurd (omega arith)
-bind-fields VAR e = absurd (omega arith)
-bind-fields PAR e = absurd (omega arith)
-bind-fields UNR e = absurd (omega arith)
-bind-fields EXI e = absurd (omega arith)
-bind-fields PROP e = absurd (omega arith)
-bind-fields IDX e = absurd (omega arith)
-bind-fields SLI e = absurd (omega arith)
-bind-fields LIS e = absurd (omega arith)
-bind-fields MAP e = absurd (omega arith)
-bind-fields KEY e = absurd (omega arith)
-bind-fields CALL e = absurd (omega arith)
-bind-fields BIN e = absurd (omega arith)
-bind-fields UNA e = absurd (omega arith)
-bind-fields CASE e = absurd (omega arith)
-bind-fields ISN e = absurd (omega arith)
-bind-fields IN e = absurd (omega arith)
-bind-fields PAT e = absurd (omega arith)
-bind-fields LCP e = absurd (omega arith)
-bind-fields PCP e = absurd (omega arith)
-bind-fields LPR e = absurd (omega arith)
-bind-fields MPR e = absurd (omega arith)
-bind-fields COP e = absurd (omega arith)
-bind-fields COM e = absurd (omega arith)
-bind-fields SHO e = absurd (omega arith)
-bind-fields ALI e = absurd (omega arith)
+bind-fields v e = every-where (λ (v : Word). eqb (rank (row v .place)) 1) (λ (v : Word). row v .fields) (variable ∷ letter ∷ []) refl v (eq-eqb (rank (row v .place)) 1 e)
 
 letter-var : (k h : Head) (xs : List Bytes) → fill k (letter ∷ []) xs ≡ ok h → h .var ≡ k .var
 unfolding fill

@@ -8,9 +8,10 @@ use lib.Dec.{eqb, ltb, leb}
 use lib.ListN.{length, getD, drop, replicate}
 use borrow.Author.Tests.{eqb-true, eqb-false, ltb-true, leb-true, ne-eqb, eq-eqb, le-ltb, lt-ltb}
 use Rattle.semantics.specs.Bytes.{Bytes, split}
-use Rattle.semantics.specs.Sheet.{Word, CYRS, B, END, MAT, CRE, MER, WHE, WIT, RET, UNW, SET, REM, DEL, CAL, PRO, SP, SL, SM, RP, RL, LAB, PARTS, PART, NOD, REL, NULL, BOOL, INT, FLT, STR, VAR, PAR, UNR, EXI, PROP, IDX, SLI, LIS, MAP, KEY, CALL, BIN, UNA, CASE, ISN, IN, PAT, LCP, PCP, LPR, MPR, COP, COM, SHO, ALI, Head, variableOf, Place, AtFirst, AtBinding, AtClause, AtEnd, AtProjection, AtSetItem, AtRemoveItem, AtLabel, AtParts, AtPart, AtElement, AtEntry, AtItem, AtExpression, Read, bad, ok, andThen, Want, first, clauses, bindings, at, wanted, deeper, row, rank, place, roles, fits, beyond, after, under, readLine}
-use Rattle.line.specs.Arrays.{classes, slots, groups, seconds}
-use Rattle.line.specs.Rows.{wordNo}
+use Rattle.semantics.specs.Sheet.{Word, Head, variableOf, Place, AtFirst, AtBinding, AtClause, AtEnd, AtProjection, AtSetItem, AtRemoveItem, AtLabel, AtParts, AtPart, AtElement, AtEntry, AtItem, AtExpression, Read, bad, ok, andThen, Want, first, clauses, bindings, at, wanted, deeper, row, rank, place, roles, fits, beyond, after, under, readLine}
+use Rattle.semantics.proofs.Words.{holds}
+use Rattle.line.specs.Arrays.{groupOf, secondOf, classes, slots, groups, seconds}
+use Rattle.line.specs.Rows.{wordNo, numbered}
 use Rattle.line.specs.Line.{Plain, unknown, known, lineSays, placed, most, Ranged, flagOf, countOf, HeadIs, SaysAs, ReadAs}
 use Rattle.line.specs.declared.line.Head.{Head as Seen}
 use Rattle.line.proofs.Rows.{class-rule, word-range, flag-rule, counted-rule}
@@ -170,14 +171,12 @@ okGroup : ℕ → ℕ → Bool
 okGroup c g = eqb g 0 || ((ltb 3 (g / 32) && leb (g / 32) 13) && (eqb (g / 32) 13 || ltb (level (g / 32)) (level c)))
 
 group-rule : (v : Word) → okGroup (rank (row v .place)) (getD groups (wordNo v) 0) ≡ true
-unfolding okGroup level groups wordNo row rank
-group-rule v =
-    elim v [ CYRS ↦ refl | B ↦ refl | END ↦ refl | MAT ↦ refl | CRE ↦ refl | MER ↦ refl | WHE ↦ refl | WIT ↦ refl | RET ↦ refl | UNW ↦ refl | SET ↦ refl | REM ↦ refl | DEL ↦ refl | CAL ↦ refl | PRO ↦ refl | SP ↦ refl | SL ↦ refl | SM ↦ refl | RP ↦ refl | RL ↦ refl | LAB ↦ refl | PARTS ↦ refl | PART ↦ refl | NOD ↦ refl | REL ↦ refl | NULL ↦ refl | BOOL ↦ refl | INT ↦ refl | FLT ↦ refl | STR ↦ refl | VAR ↦ refl | PAR ↦ refl | UNR ↦ refl | EXI ↦ refl | PROP ↦ refl | IDX ↦ refl | SLI ↦ refl | LIS ↦ refl | MAP ↦ refl | KEY ↦ refl | CALL ↦ refl | BIN ↦ refl | UNA ↦ refl | CASE ↦ refl | ISN ↦ refl | IN ↦ refl | PAT ↦ refl | LCP ↦ refl | PCP ↦ refl | LPR ↦ refl | MPR ↦ refl | COP ↦ refl | COM ↦ refl | SHO ↦ refl | ALI ↦ refl ]
+unfolding okGroup level groups groupOf numbered wordNo row rank
+group-rule v = holds (λ (v : Word). okGroup (rank (row v .place)) (getD groups (wordNo v) 0)) refl v
 
 second-rule : (v : Word) → okGroup (rank (row v .place)) (getD seconds (wordNo v) 0) ≡ true
-unfolding okGroup level seconds wordNo row rank
-second-rule v =
-    elim v [ CYRS ↦ refl | B ↦ refl | END ↦ refl | MAT ↦ refl | CRE ↦ refl | MER ↦ refl | WHE ↦ refl | WIT ↦ refl | RET ↦ refl | UNW ↦ refl | SET ↦ refl | REM ↦ refl | DEL ↦ refl | CAL ↦ refl | PRO ↦ refl | SP ↦ refl | SL ↦ refl | SM ↦ refl | RP ↦ refl | RL ↦ refl | LAB ↦ refl | PARTS ↦ refl | PART ↦ refl | NOD ↦ refl | REL ↦ refl | NULL ↦ refl | BOOL ↦ refl | INT ↦ refl | FLT ↦ refl | STR ↦ refl | VAR ↦ refl | PAR ↦ refl | UNR ↦ refl | EXI ↦ refl | PROP ↦ refl | IDX ↦ refl | SLI ↦ refl | LIS ↦ refl | MAP ↦ refl | KEY ↦ refl | CALL ↦ refl | BIN ↦ refl | UNA ↦ refl | CASE ↦ refl | ISN ↦ refl | IN ↦ refl | PAT ↦ refl | LCP ↦ refl | PCP ↦ refl | LPR ↦ refl | MPR ↦ refl | COP ↦ refl | COM ↦ refl | SHO ↦ refl | ALI ↦ refl ]
+unfolding okGroup level seconds secondOf numbered wordNo row rank
+second-rule v = holds (λ (v : Word). okGroup (rank (row v .place)) (getD seconds (wordNo v) 0)) refl v
 
 -- a class of lines under a line of class c: no first, `b`, `end` line and no clause; its level is less, but for an expression
 pub record Under (c g : ℕ) : Type 0 where

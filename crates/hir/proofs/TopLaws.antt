@@ -1,7 +1,7 @@
 -- The top of a sheet: its bindings, its clauses, its end. Assumes nothing.
 use mathlib.Core.Path.{_≡_, refl, sym, _∙_, ap, subst}
 use mathlib.Core.List.{List, [], _∷_, _++_, map, append-nil, append-assoc}
-use mathlib.Core.Bool.{Bool, true, false, cond, _&&_, _||_}
+use mathlib.Core.Bool.{Bool, true, false, cond, not, _&&_, _||_}
 use Prim.Native.Nat.{ℕ, suc, zero, _+_, _-_, _*_, _/_, _%_, _≤_, _<_}
 use native.Mathlib.Numerals.{add-one}
 use native.Mathlib.Omega.{arith}
@@ -9,7 +9,8 @@ use lib.Dec.{eqb, ltb, leb}
 use lib.ListN.{length, getD, drop, length-drop, length-append, drop-of-length-le}
 use borrow.Author.Tests.{eqb-true, eqb-false, ltb-true, ltb-false, leb-true, ne-eqb, eq-eqb, le-ltb, lt-ltb, le-leb, lt-leb}
 use Rattle.semantics.specs.Bytes.{Bytes, front, split}
-use Rattle.semantics.specs.Sheet.{kids, Word, CYRS, B, END, MAT, CRE, MER, WHE, WIT, RET, UNW, SET, REM, DEL, CAL, PRO, SP, SL, SM, RP, RL, LAB, PARTS, PART, NOD, REL, NULL, BOOL, INT, FLT, STR, VAR, PAR, UNR, EXI, PROP, IDX, SLI, LIS, MAP, KEY, CALL, BIN, UNA, CASE, ISN, IN, PAT, LCP, PCP, LPR, MPR, COP, COM, SHO, ALI, Head, variableOf, Place, Read, bad, ok, andThen, Want, first, clauses, bindings, at, wanted, deeper, row, rank, place, roles, fits, beyond, after, under, readLine, Sheet, refused, heads, add, check, sheet}
+use Rattle.semantics.specs.Sheet.{kids, Word, Shape, nothing, Head, variableOf, Place, Read, bad, ok, andThen, Want, first, clauses, bindings, at, wanted, deeper, row, rank, place, roles, fits, beyond, after, under, readLine, Sheet, refused, heads, add, check, sheet}
+use Rattle.semantics.proofs.Words.{every-where}
 use Rattle.line.specs.Rows.{wordNo}
 use Rattle.line.specs.Line.{Plain, unknown, known, lineSays, placed, HeadIs, SaysAs, ReadAs}
 use Rattle.line.specs.declared.line.Head.{Head as Seen}
@@ -27,63 +28,11 @@ use Rattle.hir.proofs.PlaceLaws.{classOf, Fit, line-unfit, line-wrong, 
 
 -- ## Lines that hold no others
 
-plain-rule : (v : Word) (ns : List ℕ) → rank (row v .place) < 4 → (rank (row v .place) ≡ 2 → ⊥) → kids (row v .under) ns ≡ []
+pub plain-rule : (v : Word) (ns : List ℕ) → rank (row v .place) < 4 → (rank (row v .place) ≡ 2 → ⊥) → kids (row v .under) ns ≡ []
 unfolding row rank
-plain-rule CYRS ns a b = refl
-plain-rule B ns a b = refl
-plain-rule END ns a b = refl
-plain-rule MAT ns a b = absurd (b refl)
-plain-rule CRE ns a b = absurd (b refl)
-plain-rule MER ns a b = absurd (b refl)
-plain-rule WHE ns a b = absurd (b refl)
-plain-rule WIT ns a b = absurd (b refl)
-plain-rule RET ns a b = absurd (b refl)
-plain-rule UNW ns a b = absurd (b refl)
-plain-rule SET ns a b = absurd (b refl)
-plain-rule REM ns a b = absurd (b refl)
-plain-rule DEL ns a b = absurd (b refl)
-plain-rule CAL ns a b = absurd (b refl)
-plain-rule PRO ns a b = absurd (omega arith)
-plain-rule SP ns a b = absurd (omega arith)
-plain-rule SL ns a b = absurd (omega arith)
-plain-rule SM ns a b = absurd (omega arith)
-plain-rule RP ns a b = absurd (omega arith)
-plain-rule RL ns a b = absurd (omega arith)
-plain-rule LAB ns a b = absurd (omega arith)
-plain-rule PARTS ns a b = absurd (omega arith)
-plain-rule PART ns a b = absurd (omega arith)
-plain-rule NOD ns a b = absurd (omega arith)
-plain-rule REL ns a b = absurd (omega arith)
-plain-rule NULL ns a b = absurd (omega arith)
-plain-rule BOOL ns a b = absurd (omega arith)
-plain-rule INT ns a b = absurd (omega arith)
-plain-rule FLT ns a b = absurd (omega arith)
-plain-rule STR ns a b = absurd (omega arith)
-plain-rule VAR ns a b = absurd (omega arith)
-plain-rule PAR ns a b = absurd (omega arith)
-plain-rule UNR ns a b = absurd (omega arith)
-plain-rule EXI ns a b = absurd (omega arith)
-plain-rule PROP ns a b = absurd (omega arith)
-plain-rule IDX ns a b = absurd (omega arith)
-plain-rule SLI ns a b = absurd (omega arith)
-plain-rule LIS ns a b = absurd (omega arith)
-plain-rule MAP ns a b = absurd (omega arith)
-plain-rule KEY ns a b = absurd (omega arith)
-plain-rule CALL ns a b = absurd (omega arith)
-plain-rule BIN ns a b = absurd (omega arith)
-plain-rule UNA ns a b = absurd (omega arith)
-plain-rule CASE ns a b = absurd (omega arith)
-plain-rule ISN ns a b = absurd (omega arith)
-plain-rule IN ns a b = absurd (omega arith)
-plain-rule PAT ns a b = absurd (omega arith)
-plain-rule LCP ns a b = absurd (omega arith)
-plain-rule PCP ns a b = absurd (omega arith)
-plain-rule LPR ns a b = absurd (omega arith)
-plain-rule MPR ns a b = absurd (omega arith)
-plain-rule COP ns a b = absurd (omega arith)
-plain-rule COM ns a b = absurd (omega arith)
-plain-rule SHO ns a b = absurd (omega arith)
-plain-rule ALI ns a b = absurd (omega arith)
+plain-rule v ns a b =
+    ap (λ (s : Shape). kids s ns)
+    (every-where (λ (v : Word). ltb (rank (row v .place)) 4 && not (eqb (rank (row v .place)) 2)) (λ (v : Word). row v .under) nothing refl v (rw (lt-ltb (rank (row v .place)) 4 a, ne-eqb (rank (row v .place)) 2 b)))
 
 under-plain : (w : Want) (h : Head) (c : ℕ) → rank (place h) ≡ c → c < 4 → (c ≡ 2 → ⊥) → under w h ≡ after h
 unfolding under roles
