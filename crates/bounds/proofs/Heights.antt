@@ -8,8 +8,9 @@ use lib.Dec.{eqb, ltb}
 use lib.ListN.{length, getD, take, drop, length-append}
 use borrow.Author.Tests.{eqb-true, eqb-false, ltb-false}
 use Rattle.semantics.specs.Limits.{depthLimit}
-use Rattle.semantics.specs.Sheet.{Word, CYRS, B, END, MAT, CRE, MER, WHE, WIT, RET, UNW, SET, REM, DEL, CAL, PRO, SP, SL, SM, RP, RL, LAB, PARTS, PART, NOD, REL, NULL, BOOL, INT, FLT, STR, VAR, PAR, UNR, EXI, PROP, IDX, SLI, LIS, MAP, KEY, CALL, BIN, UNA, CASE, ISN, IN, PAT, LCP, PCP, LPR, MPR, COP, COM, SHO, ALI, Place, AtExpression, Role, plain, condition, answer, inner, Head, rank, place, row, rule, roles, arity, bad, ok, Want, first, clauses, bindings, at, fits, beyond, deeper, wanted, under}
+use Rattle.semantics.specs.Sheet.{Word, Rule, silent, entering, typed, Place, AtExpression, Role, plain, condition, answer, inner, Head, rank, place, row, rule, roles, arity, bad, ok, Want, first, clauses, bindings, at, fits, beyond, deeper, wanted, under}
 use Rattle.semantics.specs.Walk.{Env, step, walk}
+use Rattle.semantics.proofs.Words.{every}
 use Rattle.semantics.proofs.All.{All, empty, also}
 use Rattle.hir.specs.Lines.{Met, all-met, meets}
 use Rattle.hir.proofs.LinesLaws.{Inner, AllIn, none-in, one-in, inner-under}
@@ -19,63 +20,22 @@ use Rattle.bounds.proofs.Growth.{all-in, under-many}
 
 -- ## What a line adds to the height
 
+rises : Rule → ℕ
+rises silent = 0
+rises entering = 0
+rises (typed t) = 1
+
+rise-by : (q : Rule) (k : ℕ) → rise q k ≡ k + rises q
+unfolding rise rises
+rise-by silent k = omega arith
+rise-by entering k = omega arith
+rise-by (typed t) k = omega arith
+
 rise-place : (v : Word) (k : ℕ) → rise (row v .rule) k ≤ k + cond (eqb (rank (row v .place)) 13) 1 0
-unfolding row rank rise
-rise-place CYRS k = omega arith
-rise-place B k = omega arith
-rise-place END k = omega arith
-rise-place MAT k = omega arith
-rise-place CRE k = omega arith
-rise-place MER k = omega arith
-rise-place WHE k = omega arith
-rise-place WIT k = omega arith
-rise-place RET k = omega arith
-rise-place UNW k = omega arith
-rise-place SET k = omega arith
-rise-place REM k = omega arith
-rise-place DEL k = omega arith
-rise-place CAL k = omega arith
-rise-place PRO k = omega arith
-rise-place SP k = omega arith
-rise-place SL k = omega arith
-rise-place SM k = omega arith
-rise-place RP k = omega arith
-rise-place RL k = omega arith
-rise-place LAB k = omega arith
-rise-place PARTS k = omega arith
-rise-place PART k = omega arith
-rise-place NOD k = omega arith
-rise-place REL k = omega arith
-rise-place NULL k = omega arith
-rise-place BOOL k = omega arith
-rise-place INT k = omega arith
-rise-place FLT k = omega arith
-rise-place STR k = omega arith
-rise-place VAR k = omega arith
-rise-place PAR k = omega arith
-rise-place UNR k = omega arith
-rise-place EXI k = omega arith
-rise-place PROP k = omega arith
-rise-place IDX k = omega arith
-rise-place SLI k = omega arith
-rise-place LIS k = omega arith
-rise-place MAP k = omega arith
-rise-place KEY k = omega arith
-rise-place CALL k = omega arith
-rise-place BIN k = omega arith
-rise-place UNA k = omega arith
-rise-place CASE k = omega arith
-rise-place ISN k = omega arith
-rise-place IN k = omega arith
-rise-place PAT k = omega arith
-rise-place LCP k = omega arith
-rise-place PCP k = omega arith
-rise-place LPR k = omega arith
-rise-place MPR k = omega arith
-rise-place COP k = omega arith
-rise-place COM k = omega arith
-rise-place SHO k = omega arith
-rise-place ALI k = omega arith
+unfolding rises row rank
+rise-place v k =
+    let e : rises (row v .rule) ≡ cond (eqb (rank (row v .place)) 13) 1 0 = every (λ (v : Word). rises (row v .rule)) (λ (v : Word). cond (eqb (rank (row v .place)) 13) 1 0) refl v in
+    omega (arith, rise-by (row v .rule) k, e)
 
 -- ## What the depth limit leaves
 

@@ -108,7 +108,7 @@ wanted-at d condition = refl
 wanted-at d answer = refl
 wanted-at d (inner q) = refl
 
-place-rank : (q : Place) → placeAt (rank q) ≡ q
+pub place-rank : (q : Place) → placeAt (rank q) ≡ q
 unfolding placeAt rank
 place-rank q =
     elim q [ AtFirst ↦ refl | AtBinding ↦ refl | AtClause ↦ refl | AtEnd ↦ refl | AtProjection ↦ refl | AtSetItem ↦ refl | AtRemoveItem ↦ refl | AtLabel ↦ refl | AtParts ↦ refl | AtPart ↦ refl | AtElement ↦ refl | AtEntry ↦ refl | AtItem ↦ refl | AtExpression ↦ refl ]
@@ -143,7 +143,7 @@ okBits (around p j) fs = ltb j 8 && leb (most fs j) 1
 okBits (oneThen j) fs = ltb j 8 && leb (most fs j) 1
 okBits (oneTimes i p) fs = true
 
-both : (a b : Bool) → a && b ≡ true → (a ≡ true) × (b ≡ true)
+pub both : (a b : Bool) → a && b ≡ true → (a ≡ true) × (b ≡ true)
 both true b e = (refl, e)
 both false b e = absurd (let z : _≡_ {A = ℕ} 0 1 = cc in omega arith)
 

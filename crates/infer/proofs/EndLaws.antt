@@ -2,7 +2,8 @@
 use mathlib.Core.Path.{_≡_, refl, sym, _∙_, ap, subst}
 use mathlib.Core.List.{List, [], _∷_, map}
 use mathlib.Core.Option.{Option, none, some}
-use mathlib.Core.Bool.{Bool, true, false, _&&_}
+use mathlib.Core.Bool.{Bool, true, false, cond, _&&_}
+use borrow.Author.Tests.{eq-eqb, ne-eqb}
 use Prim.Native.Nat.{ℕ, suc, zero, _≤_, _<_}
 use native.Mathlib.Omega.{arith}
 use lib.Dec.{eqb, leb}
@@ -12,13 +13,14 @@ use Rattle.semantics.specs.Bytes.{Bytes, hex, unhex, split, decimal}
 use Rattle.semantics.specs.Limits.{variableLimit}
 use Rattle.semantics.specs.Ty.{tAny, Ty, base, tList, tMap, Fields, ∅ᶠ, letter, line, lineTo, fieldsTo}
 use Rattle.semantics.specs.Builtins.{lookup, elementOf, listOr}
-use Rattle.semantics.specs.Sheet.{Word, CYRS, B, END, MAT, CRE, MER, WHE, WIT, RET, UNW, SET, REM, DEL, CAL, PRO, SP, SL, SM, RP, RL, LAB, PARTS, PART, NOD, REL, NULL, BOOL, INT, FLT, STR, VAR, PAR, UNR, EXI, PROP, IDX, SLI, LIS, MAP, KEY, CALL, BIN, UNA, CASE, ISN, IN, PAT, LCP, PCP, LPR, MPR, COP, COM, SHO, ALI, Head, variable, num, variableOf, Typing, constant, varType, element, slice as slicing, listing, mapping, calling, operator, unary, casing, membership, comprehension, Rule, silent, entering, typed, row, rule, wrong, variableV, into, within, value, Read, bad, ok, fill, bare, wordIn, words}
+use Rattle.semantics.specs.Sheet.{Word, VAR, MPR, Head, variable, num, variableOf, Typing, constant, varType, element, slice as slicing, listing, mapping, calling, operator, unary, casing, membership, comprehension, Rule, silent, entering, typed, row, rule, wrong, variableV, into, within, value, Read, bad, ok, fill, bare, wordIn, words}
 use Rattle.semantics.specs.Walk.{Env, kindType, varTypeOf, op, unaryType, unaryFaults, callType, callFaults}
 use Rattle.semantics.proofs.Named.{Maybe, Digits}
 use Rattle.semantics.proofs.Reader.{unhex-sound}
 use Rattle.text.specs.Text.{digitOf}
 use Rattle.text.proofs.Words.{values-unhex}
-use Rattle.line.specs.Rows.{wordNo}
+use Rattle.semantics.proofs.Words.{every, every-where}
+use Rattle.line.specs.Rows.{wordNo, numbered}
 use Rattle.line.specs.Line.{Plain, unknown, known, wordSays, piecesSay, lineSays}
 use Rattle.line.specs.declared.line.Head.{Head as Seen}
 use Rattle.hir.specs.Lines.{LineAt}
@@ -58,10 +60,7 @@ name-spelt s n e = sym (subst (Maybe (λ (m : Bytes). (map hex m ≡ s) × Digit
 
 -- ## Constants
 
-unfoldable pub letters : List ℕ
-letters = 80 ∷ 80 ∷ 80 ∷ 80 ∷ 80 ∷ 80 ∷ 80 ∷ 80 ∷ 80 ∷ 80 ∷ 80 ∷ 80 ∷ 80 ∷ 80 ∷ 80 ∷ 80 ∷ 80 ∷ 80 ∷ 80 ∷ 80 ∷ 80 ∷ 80 ∷ 80 ∷ 80 ∷ 80 ∷ 80 ∷ 66 ∷ 67 ∷ 68 ∷ 69 ∷ 71 ∷ 80 ∷ 65 ∷ 80 ∷ 80 ∷ 65 ∷ 80 ∷ 80 ∷ 80 ∷ 80 ∷ 80 ∷ 80 ∷ 80 ∷ 80 ∷ 80 ∷ 67 ∷ 80 ∷ 67 ∷ 80 ∷ 80 ∷ 67 ∷ []
-
-constantLine : Rule → Bytes
+unfoldable pub constantLine : Rule → Bytes
 constantLine silent = 80 ∷ 44 ∷ []
 constantLine entering = 80 ∷ 44 ∷ []
 constantLine (typed (constant t)) = line t
@@ -77,63 +76,14 @@ constantLine (typed casing) = 80 ∷ 44 ∷ []
 constantLine (typed membership) = 80 ∷ 44 ∷ []
 constantLine (typed comprehension) = 80 ∷ 44 ∷ []
 
+-- the letter of each word's constant
+unfoldable pub letters : List ℕ
+letters = 80 ∷ map (λ (v : Word). getD (constantLine (row v .rule)) 0 80) numbered
+
 line-row : (v : Word) → (wordNo v ≡ 51 → ⊥) → getD letters (wordNo v) 80 ∷ 44 ∷ [] ≡ constantLine (row v .rule)
-unfolding letters constantLine wordNo row line lineTo letter
-line-row CYRS n = refl
-line-row B n = refl
-line-row END n = refl
-line-row MAT n = refl
-line-row CRE n = refl
-line-row MER n = refl
-line-row WHE n = refl
-line-row WIT n = refl
-line-row RET n = refl
-line-row UNW n = refl
-line-row SET n = refl
-line-row REM n = refl
-line-row DEL n = refl
-line-row CAL n = refl
-line-row PRO n = refl
-line-row SP n = refl
-line-row SL n = refl
-line-row SM n = refl
-line-row RP n = refl
-line-row RL n = refl
-line-row LAB n = refl
-line-row PARTS n = refl
-line-row PART n = refl
-line-row NOD n = refl
-line-row REL n = refl
-line-row NULL n = refl
-line-row BOOL n = refl
-line-row INT n = refl
-line-row FLT n = refl
-line-row STR n = refl
-line-row VAR n = refl
-line-row PAR n = refl
-line-row UNR n = refl
-line-row EXI n = refl
-line-row PROP n = refl
-line-row IDX n = refl
-line-row SLI n = refl
-line-row LIS n = refl
-line-row MAP n = refl
-line-row KEY n = refl
-line-row CALL n = refl
-line-row BIN n = refl
-line-row UNA n = refl
-line-row CASE n = refl
-line-row ISN n = refl
-line-row IN n = refl
-line-row PAT n = refl
-line-row LCP n = refl
-line-row PCP n = refl
-line-row LPR n = refl
-line-row MPR n = absurd (n refl)
-line-row COP n = refl
-line-row COM n = refl
-line-row SHO n = refl
-line-row ALI n = refl
+unfolding letters constantLine wordNo numbered row line lineTo fieldsTo letter
+line-row v n =
+    rw (ne-eqb (wordNo v) 51 n) at (every (λ (v : Word). cond (eqb (wordNo v) 51) [] (getD letters (wordNo v) 80 ∷ 44 ∷ [])) (λ (v : Word). cond (eqb (wordNo v) 51) [] (constantLine (row v .rule))) refl v)
 
 map-row : (v : Word) → v ≡ MPR → 75 ∷ 44 ∷ 33 ∷ 44 ∷ [] ≡ constantLine (row v .rule)
 unfolding constantLine row line lineTo fieldsTo
@@ -153,7 +103,7 @@ rest-letter n w p v t e r m =
 
 module _ {s s′ : Bytes} {r : ℕ} (w : ℕ) (h : 1024 ≤ length s) where
   pub constant-map : w ≡ 51 → Puts (75 ∷ 44 ∷ 33 ∷ 44 ∷ []) s s′ r → ConstantBy w s s′ r
-  unfolding constantLine inOrder
+  unfolding constantLine inOrder numbered
   constant-map o p v t e x = put-type t (map-row v (word-is v 51 (sym e ∙ o)) ∙ ap constantLine x) (omega arith) p
 
   pub constant-letter : {n : ℕ} → LetterBy w n → (w ≡ 51 → ⊥) → Puts (n ∷ 44 ∷ []) s s′ r → ConstantBy w s s′ r
@@ -162,61 +112,7 @@ module _ {s s′ : Bytes} {r : ℕ} (w : ℕ) (h : 1024 ≤ length s) where
 -- only `var` is a variable
 var-word : (v : Word) → ruleNo (row v .rule) ≡ 1 → v ≡ VAR
 unfolding row ruleNo typingNo
-var-word CYRS e = absurd (omega arith)
-var-word B e = absurd (omega arith)
-var-word END e = absurd (omega arith)
-var-word MAT e = absurd (omega arith)
-var-word CRE e = absurd (omega arith)
-var-word MER e = absurd (omega arith)
-var-word WHE e = absurd (omega arith)
-var-word WIT e = absurd (omega arith)
-var-word RET e = absurd (omega arith)
-var-word UNW e = absurd (omega arith)
-var-word SET e = absurd (omega arith)
-var-word REM e = absurd (omega arith)
-var-word DEL e = absurd (omega arith)
-var-word CAL e = absurd (omega arith)
-var-word PRO e = absurd (omega arith)
-var-word SP e = absurd (omega arith)
-var-word SL e = absurd (omega arith)
-var-word SM e = absurd (omega arith)
-var-word RP e = absurd (omega arith)
-var-word RL e = absurd (omega arith)
-var-word LAB e = absurd (omega arith)
-var-word PARTS e = absurd (omega arith)
-var-word PART e = absurd (omega arith)
-var-word NOD e = absurd (omega arith)
-var-word REL e = absurd (omega arith)
-var-word NULL e = absurd (omega arith)
-var-word BOOL e = absurd (omega arith)
-var-word INT e = absurd (omega arith)
-var-word FLT e = absurd (omega arith)
-var-word STR e = absurd (omega arith)
-var-word VAR e = refl
-var-word PAR e = absurd (omega arith)
-var-word UNR e = absurd (omega arith)
-var-word EXI e = absurd (omega arith)
-var-word PROP e = absurd (omega arith)
-var-word IDX e = absurd (omega arith)
-var-word SLI e = absurd (omega arith)
-var-word LIS e = absurd (omega arith)
-var-word MAP e = absurd (omega arith)
-var-word KEY e = absurd (omega arith)
-var-word CALL e = absurd (omega arith)
-var-word BIN e = absurd (omega arith)
-var-word UNA e = absurd (omega arith)
-var-word CASE e = absurd (omega arith)
-var-word ISN e = absurd (omega arith)
-var-word IN e = absurd (omega arith)
-var-word PAT e = absurd (omega arith)
-var-word LCP e = absurd (omega arith)
-var-word PCP e = absurd (omega arith)
-var-word LPR e = absurd (omega arith)
-var-word MPR e = absurd (omega arith)
-var-word COP e = absurd (omega arith)
-var-word COM e = absurd (omega arith)
-var-word SHO e = absurd (omega arith)
-var-word ALI e = absurd (omega arith)
+var-word v e = every-where (λ (v : Word). eqb (ruleNo (row v .rule)) 1) (λ (v : Word). v) VAR refl v (eq-eqb (ruleNo (row v .rule)) 1 e)
 
 -- ## What is kept, by its form
 

@@ -1,18 +1,21 @@
 -- The rule of a word by its number, and the roles of a line's children: a computed case for each word. Assumes nothing.
 use mathlib.Core.Path.{_≡_, refl, sym, _∙_, ap}
 use mathlib.Core.Logic.{_⊎_, inl, inr}
-use mathlib.Core.List.{List, [], _∷_, _++_}
-use mathlib.Core.Bool.{cond}
+use mathlib.Core.List.{List, [], _∷_, _++_, map}
+use mathlib.Core.Bool.{Bool, true, false, cond, not, _&&_, _||_}
 use Prim.Native.Nat.{ℕ, suc, zero, _+_, _-_, _*_, _/_, _%_, _≤_, _<_}
 use native.Mathlib.Omega.{arith}
 use types.Run.{OneOf}
-use lib.Dec.{eqb}
+use lib.Dec.{eqb, ltb, leb}
 use lib.ListN.{length, getD, replicate}
-use borrow.Author.Tests.{eq-eqb, ne-eqb}
+use borrow.Author.Tests.{eqb-true, eq-eqb, ne-eqb, le-ltb, leb-true}
 use Rattle.semantics.specs.Bytes.{Bytes}
-use Rattle.semantics.specs.Sheet.{kids, Word, CYRS, B, END, MAT, CRE, MER, WHE, WIT, RET, UNW, SET, REM, DEL, CAL, PRO, SP, SL, SM, RP, RL, LAB, PARTS, PART, NOD, REL, NULL, BOOL, INT, FLT, STR, VAR, PAR, UNR, EXI, PROP, IDX, SLI, LIS, MAP, KEY, CALL, BIN, UNA, CASE, ISN, IN, PAT, LCP, PCP, LPR, MPR, COP, COM, SHO, ALI, Head, AtProjection, AtSetItem, AtRemoveItem, AtLabel, AtParts, AtPart, AtElement, AtEntry, AtItem, Role, plain, condition, answer, inner, low, high, present, armRoles, row, roles, arity}
-use Rattle.line.specs.Arrays.{slots}
-use Rattle.line.specs.Rows.{wordNo}
+use Rattle.semantics.specs.Sheet.{kids, Word, CYRS, CASE, Head, AtParts, Role, plain, condition, answer, inner, present, armRoles, row, roles, arity}
+use Rattle.semantics.proofs.All.{all-at}
+use Rattle.semantics.proofs.Words.{every, every-where, holds, named, each, kids-each}
+use Rattle.line.specs.Arrays.{slots, slotsOf}
+use Rattle.line.specs.Rows.{wordNo, numbered}
+use Rattle.line.proofs.Rows.{word-at}
 use Rattle.line.specs.Line.{most, flagOf, countOf, HeadIs}
 use Rattle.line.specs.declared.line.Head.{Head as Seen}
 use Rattle.infer.specs.Steps.{typingNo, ruleNo, roleNo, caseRow}
@@ -21,23 +24,18 @@ use Rattle.infer.specs.Steps.{typingNo, ruleNo, roleNo, caseRow}
 
 -- the number of each word's rule
 unfoldable pub rules : List ℕ
-rules = 12 ∷ 12 ∷ 12 ∷ 12 ∷ 12 ∷ 12 ∷ 12 ∷ 12 ∷ 12 ∷ 12 ∷ 12 ∷ 12 ∷ 12 ∷ 12 ∷ 12 ∷ 12 ∷ 12 ∷ 12 ∷ 12 ∷ 12 ∷ 12 ∷ 12 ∷ 12 ∷ 12 ∷ 12 ∷ 12 ∷ 0 ∷ 0 ∷ 0 ∷ 0 ∷ 0 ∷ 1 ∷ 0 ∷ 0 ∷ 0 ∷ 0 ∷ 2 ∷ 3 ∷ 4 ∷ 5 ∷ 13 ∷ 6 ∷ 7 ∷ 8 ∷ 9 ∷ 0 ∷ 10 ∷ 0 ∷ 11 ∷ 11 ∷ 0 ∷ 0 ∷ 12 ∷ 12 ∷ 12 ∷ 12 ∷ []
+rules = 12 ∷ map (λ (v : Word). ruleNo (row v .rule)) numbered
 
 rule-row : (v : Word) → getD rules (wordNo v) 0 ≡ ruleNo (row v .rule)
-unfolding rules wordNo row ruleNo typingNo
-rule-row v =
-    elim v [ CYRS ↦ refl | B ↦ refl | END ↦ refl | MAT ↦ refl | CRE ↦ refl | MER ↦ refl | WHE ↦ refl | WIT ↦ refl | RET ↦ refl | UNW ↦ refl | SET ↦ refl | REM ↦ refl | DEL ↦ refl | CAL ↦ refl | PRO ↦ refl | SP ↦ refl | SL ↦ refl | SM ↦ refl | RP ↦ refl | RL ↦ refl | LAB ↦ refl | PARTS ↦ refl | PART ↦ refl | NOD ↦ refl | REL ↦ refl | NULL ↦ refl | BOOL ↦ refl | INT ↦ refl | FLT ↦ refl | STR ↦ refl | VAR ↦ refl | PAR ↦ refl | UNR ↦ refl | EXI ↦ refl | PROP ↦ refl | IDX ↦ refl | SLI ↦ refl | LIS ↦ refl | MAP ↦ refl | KEY ↦ refl | CALL ↦ refl | BIN ↦ refl | UNA ↦ refl | CASE ↦ refl | ISN ↦ refl | IN ↦ refl | PAT ↦ refl | LCP ↦ refl | PCP ↦ refl | LPR ↦ refl | MPR ↦ refl | COP ↦ refl | COM ↦ refl | SHO ↦ refl | ALI ↦ refl ]
+unfolding rules numbered wordNo row ruleNo typingNo
+rule-row v = every (λ (v : Word). getD rules (wordNo v) 0) (λ (v : Word). ruleNo (row v .rule)) refl v
 
 -- the words by their numbers
 unfoldable pub inOrder : List Word
-inOrder = CYRS ∷ CYRS ∷ B ∷ END ∷ MAT ∷ CRE ∷ MER ∷ WHE ∷ WIT ∷ RET ∷ UNW ∷ SET ∷ REM ∷ DEL ∷ CAL ∷ PRO ∷ SP ∷ SL ∷ SM ∷ RP ∷ RL ∷ LAB ∷ PARTS ∷ PART ∷ NOD ∷ REL ∷ NULL ∷ BOOL ∷ INT ∷ FLT ∷ STR ∷ VAR ∷ PAR ∷ UNR ∷ EXI ∷ PROP ∷ IDX ∷ SLI ∷ LIS ∷ MAP ∷ KEY ∷ CALL ∷ BIN ∷ UNA ∷ CASE ∷ ISN ∷ IN ∷ PAT ∷ LCP ∷ PCP ∷ LPR ∷ MPR ∷ COP ∷ COM ∷ SHO ∷ ALI ∷ []
-
-pub word-at : (v : Word) → getD inOrder (wordNo v) CYRS ≡ v
-unfolding inOrder wordNo
-word-at v =
-    elim v [ CYRS ↦ refl | B ↦ refl | END ↦ refl | MAT ↦ refl | CRE ↦ refl | MER ↦ refl | WHE ↦ refl | WIT ↦ refl | RET ↦ refl | UNW ↦ refl | SET ↦ refl | REM ↦ refl | DEL ↦ refl | CAL ↦ refl | PRO ↦ refl | SP ↦ refl | SL ↦ refl | SM ↦ refl | RP ↦ refl | RL ↦ refl | LAB ↦ refl | PARTS ↦ refl | PART ↦ refl | NOD ↦ refl | REL ↦ refl | NULL ↦ refl | BOOL ↦ refl | INT ↦ refl | FLT ↦ refl | STR ↦ refl | VAR ↦ refl | PAR ↦ refl | UNR ↦ refl | EXI ↦ refl | PROP ↦ refl | IDX ↦ refl | SLI ↦ refl | LIS ↦ refl | MAP ↦ refl | KEY ↦ refl | CALL ↦ refl | BIN ↦ refl | UNA ↦ refl | CASE ↦ refl | ISN ↦ refl | IN ↦ refl | PAT ↦ refl | LCP ↦ refl | PCP ↦ refl | LPR ↦ refl | MPR ↦ refl | COP ↦ refl | COM ↦ refl | SHO ↦ refl | ALI ↦ refl ]
+inOrder = CYRS ∷ numbered
 
 pub word-is : (v : Word) (n : ℕ) → wordNo v ≡ n → v ≡ getD inOrder n CYRS
+unfolding inOrder
 word-is v n e = sym (word-at v) ∙ ap (λ (i : ℕ). getD inOrder i CYRS) e
 
 -- an arm of the match
@@ -56,154 +54,35 @@ missed-out b (suc k) w m h = beyond (missed-out b k w (m .0) h) (m .1)
     beyond : b + k ≤ w → (w ≡ k + b → ⊥) → b + suc k ≤ w
     beyond l n = omega arith
 
+outside : (n : ℕ) → Missed 26 26 n → leb 26 n && ltb n 52 ≡ false
+outside n p = go (leb 26 n) refl
+  where
+    go : (b : Bool) → leb 26 n ≡ b → leb 26 n && ltb n 52 ≡ false
+    go true d = rw (d, le-ltb n 52 (missed-out 26 26 n p (leb-true 26 n d)))
+    go false d = rw d
+
 pub rest-rule : (v : Word) → Missed 26 26 (wordNo v) → 12 ≡ ruleNo (row v .rule)
 unfolding wordNo row ruleNo typingNo
-rest-rule CYRS p = refl
-rest-rule B p = refl
-rest-rule END p = refl
-rest-rule MAT p = refl
-rest-rule CRE p = refl
-rest-rule MER p = refl
-rest-rule WHE p = refl
-rest-rule WIT p = refl
-rest-rule RET p = refl
-rest-rule UNW p = refl
-rest-rule SET p = refl
-rest-rule REM p = refl
-rest-rule DEL p = refl
-rest-rule CAL p = refl
-rest-rule PRO p = refl
-rest-rule SP p = refl
-rest-rule SL p = refl
-rest-rule SM p = refl
-rest-rule RP p = refl
-rest-rule RL p = refl
-rest-rule LAB p = refl
-rest-rule PARTS p = refl
-rest-rule PART p = refl
-rest-rule NOD p = refl
-rest-rule REL p = refl
-rest-rule NULL p = absurd (p .0 .0 .0 .0 .0 .0 .0 .0 .0 .0 .0 .0 .0 .0 .0 .0 .0 .0 .0 .0 .0 .0 .0 .0 .0 .1 refl)
-rest-rule BOOL p = absurd (p .0 .0 .0 .0 .0 .0 .0 .0 .0 .0 .0 .0 .0 .0 .0 .0 .0 .0 .0 .0 .0 .0 .0 .0 .1 refl)
-rest-rule INT p = absurd (p .0 .0 .0 .0 .0 .0 .0 .0 .0 .0 .0 .0 .0 .0 .0 .0 .0 .0 .0 .0 .0 .0 .0 .1 refl)
-rest-rule FLT p = absurd (p .0 .0 .0 .0 .0 .0 .0 .0 .0 .0 .0 .0 .0 .0 .0 .0 .0 .0 .0 .0 .0 .0 .1 refl)
-rest-rule STR p = absurd (p .0 .0 .0 .0 .0 .0 .0 .0 .0 .0 .0 .0 .0 .0 .0 .0 .0 .0 .0 .0 .0 .1 refl)
-rest-rule VAR p = absurd (p .0 .0 .0 .0 .0 .0 .0 .0 .0 .0 .0 .0 .0 .0 .0 .0 .0 .0 .0 .0 .1 refl)
-rest-rule PAR p = absurd (p .0 .0 .0 .0 .0 .0 .0 .0 .0 .0 .0 .0 .0 .0 .0 .0 .0 .0 .0 .1 refl)
-rest-rule UNR p = absurd (p .0 .0 .0 .0 .0 .0 .0 .0 .0 .0 .0 .0 .0 .0 .0 .0 .0 .0 .1 refl)
-rest-rule EXI p = absurd (p .0 .0 .0 .0 .0 .0 .0 .0 .0 .0 .0 .0 .0 .0 .0 .0 .0 .1 refl)
-rest-rule PROP p = absurd (p .0 .0 .0 .0 .0 .0 .0 .0 .0 .0 .0 .0 .0 .0 .0 .0 .1 refl)
-rest-rule IDX p = absurd (p .0 .0 .0 .0 .0 .0 .0 .0 .0 .0 .0 .0 .0 .0 .0 .1 refl)
-rest-rule SLI p = absurd (p .0 .0 .0 .0 .0 .0 .0 .0 .0 .0 .0 .0 .0 .0 .1 refl)
-rest-rule LIS p = absurd (p .0 .0 .0 .0 .0 .0 .0 .0 .0 .0 .0 .0 .0 .1 refl)
-rest-rule MAP p = absurd (p .0 .0 .0 .0 .0 .0 .0 .0 .0 .0 .0 .0 .1 refl)
-rest-rule KEY p = absurd (p .0 .0 .0 .0 .0 .0 .0 .0 .0 .0 .0 .1 refl)
-rest-rule CALL p = absurd (p .0 .0 .0 .0 .0 .0 .0 .0 .0 .0 .1 refl)
-rest-rule BIN p = absurd (p .0 .0 .0 .0 .0 .0 .0 .0 .0 .1 refl)
-rest-rule UNA p = absurd (p .0 .0 .0 .0 .0 .0 .0 .0 .1 refl)
-rest-rule CASE p = absurd (p .0 .0 .0 .0 .0 .0 .0 .1 refl)
-rest-rule ISN p = absurd (p .0 .0 .0 .0 .0 .0 .1 refl)
-rest-rule IN p = absurd (p .0 .0 .0 .0 .0 .1 refl)
-rest-rule PAT p = absurd (p .0 .0 .0 .0 .1 refl)
-rest-rule LCP p = absurd (p .0 .0 .0 .1 refl)
-rest-rule PCP p = absurd (p .0 .0 .1 refl)
-rest-rule LPR p = absurd (p .0 .1 refl)
-rest-rule MPR p = absurd (p .1 refl)
-rest-rule COP p = refl
-rest-rule COM p = refl
-rest-rule SHO p = refl
-rest-rule ALI p = refl
+rest-rule v p = sym (every-where (λ (v : Word). not (leb 26 (wordNo v) && ltb (wordNo v) 52)) (λ (v : Word). ruleNo (row v .rule)) 12 refl v (ap not (outside (wordNo v) p)))
 
 -- ## Words whose children have no condition and no answer
 
 abbrev Quiet : List Role → Type 0
 Quiet ps = (j : ℕ) → roleNo (getD ps j plain) ≡ 0
 
-quiet-nil : Quiet []
-unfolding roleNo
-quiet-nil j = refl
+quietRole : Role → Bool
+quietRole p = eqb (roleNo p) 0
 
-quiet-cons : (p : Role) (ps : List Role) → roleNo p ≡ 0 → Quiet ps → Quiet (p ∷ ps)
-quiet-cons p ps e q zero = e
-quiet-cons p ps e q (suc j) = q j
-
-quiet-one : (p : Role) → roleNo p ≡ 0 → Quiet (p ∷ [])
-quiet-one p e = quiet-cons p [] e quiet-nil
-
-quiet-two : Quiet (plain ∷ plain ∷ [])
-unfolding roleNo
-quiet-two = quiet-cons plain (plain ∷ []) refl (quiet-one plain refl)
-
-quiet-before : (k : ℕ) (p : Role) (ps : List Role) → roleNo p ≡ 0 → Quiet ps → Quiet (replicate k p ++ ps)
-quiet-before zero p ps e q = q
-quiet-before (suc k) p ps e q = quiet-cons p (replicate k p ++ ps) e (quiet-before k p ps e q)
-
-quiet-many : (k : ℕ) (p : Role) → roleNo p ≡ 0 → Quiet (replicate k p)
-quiet-many zero p e = quiet-nil
-quiet-many (suc k) p e = quiet-cons p (replicate k p) e (quiet-many k p e)
-
-quiet-bit : (k : ℕ) (ps : List Role) → Quiet ps → Quiet (present k plain ps)
-unfolding roleNo
-quiet-bit zero ps q = q
-quiet-bit (suc k) ps q = quiet-cons plain ps refl q
+-- a CASE or a comprehension
+asking : ℕ → Bool
+asking n = eqb n 44 || (eqb n 48 || eqb n 49)
 
 others : (v : Word) (ns : List ℕ) → (wordNo v ≡ 44 → ⊥) → ((wordNo v ≡ 48) ⊎ (wordNo v ≡ 49) → ⊥) → Quiet (kids (row v .under) ns)
-unfolding row wordNo roleNo
-others CYRS ns n m = quiet-nil
-others B ns n m = quiet-nil
-others END ns n m = quiet-nil
-others MAT ns n m = quiet-one (inner AtParts) refl
-others CRE ns n m = quiet-one (inner AtParts) refl
-others MER ns n m = quiet-one (inner AtParts) refl
-others WHE ns n m = quiet-one plain refl
-others WIT ns n m = quiet-before (getD ns 1 0) (inner AtProjection) (present (getD ns 0 0) plain []) refl (quiet-bit (getD ns 0 0) [] quiet-nil)
-others RET ns n m = quiet-many (getD ns 1 0) (inner AtProjection) refl
-others UNW ns n m = quiet-one plain refl
-others SET ns n m = quiet-many (getD ns 0 0) (inner AtSetItem) refl
-others REM ns n m = quiet-many (getD ns 0 0) (inner AtRemoveItem) refl
-others DEL ns n m = quiet-many (getD ns 1 0) plain refl
-others CAL ns n m = quiet-many (getD ns 1 0) plain refl
-others PRO ns n m = quiet-one plain refl
-others SP ns n m = quiet-two
-others SL ns n m = quiet-many (getD ns 0 0) (inner AtLabel) refl
-others SM ns n m = quiet-one plain refl
-others RP ns n m = quiet-one plain refl
-others RL ns n m = quiet-many (getD ns 0 0) (inner AtLabel) refl
-others LAB ns n m = quiet-nil
-others PARTS ns n m = quiet-many (getD ns 0 0) (inner AtPart) refl
-others PART ns n m = quiet-many (getD ns 1 0) (inner AtElement) refl
-others NOD ns n m = quiet-before (getD ns 1 0) (inner AtLabel) (present (getD ns 0 0) plain []) refl (quiet-bit (getD ns 0 0) [] quiet-nil)
-others REL ns n m = quiet-before (getD ns 5 0) (inner AtLabel) (present (getD ns 4 0) plain []) refl (quiet-bit (getD ns 4 0) [] quiet-nil)
-others NULL ns n m = quiet-nil
-others BOOL ns n m = quiet-nil
-others INT ns n m = quiet-nil
-others FLT ns n m = quiet-nil
-others STR ns n m = quiet-nil
-others VAR ns n m = quiet-nil
-others PAR ns n m = quiet-nil
-others UNR ns n m = quiet-nil
-others EXI ns n m = quiet-nil
-others PROP ns n m = quiet-one plain refl
-others IDX ns n m = quiet-two
-others SLI ns n m = quiet-cons plain (present (low (getD ns 0 0)) plain (present (high (getD ns 0 0)) plain [])) refl (quiet-bit (low (getD ns 0 0)) (present (high (getD ns 0 0)) plain []) (quiet-bit (high (getD ns 0 0)) [] quiet-nil))
-others LIS ns n m = quiet-many (getD ns 0 0) plain refl
-others MAP ns n m = quiet-many (getD ns 0 0) (inner AtEntry) refl
-others KEY ns n m = quiet-one plain refl
-others CALL ns n m = quiet-many (getD ns 1 0) plain refl
-others BIN ns n m = quiet-two
-others UNA ns n m = quiet-one plain refl
-others CASE ns n m = absurd (n refl)
-others ISN ns n m = quiet-one plain refl
-others IN ns n m = quiet-two
-others PAT ns n m = quiet-one (inner AtParts) refl
-others LCP ns n m = absurd (m (inl refl))
-others PCP ns n m = absurd (m (inr refl))
-others LPR ns n m = quiet-cons plain (present (getD ns 1 0) plain []) refl (quiet-bit (getD ns 1 0) [] quiet-nil)
-others MPR ns n m = quiet-cons plain (replicate (getD ns 0 0) (inner AtItem)) refl (quiet-many (getD ns 0 0) (inner AtItem) refl)
-others COP ns n m = quiet-nil
-others COM ns n m = quiet-one plain refl
-others SHO ns n m = quiet-nil
-others ALI ns n m = quiet-one plain refl
+unfolding asking quietRole each row wordNo roleNo
+others v ns n m j =
+    let no : asking (wordNo v) ≡ false = rw (ne-eqb (wordNo v) 44 n, ne-eqb (wordNo v) 48 (λ e. m (inl e)), ne-eqb (wordNo v) 49 (λ e. m (inr e))) in
+    let t : cond (asking (wordNo v)) true (each quietRole (named (row v .under))) ≡ true = holds (λ (v : Word). cond (asking (wordNo v)) true (each quietRole (named (row v .under)))) refl v in
+    all-at {P = λ (p : Role). roleNo p ≡ 0} plain refl (kids-each quietRole (λ p e. eqb-true (roleNo p) 0 e) (row v .under) (ap (λ (b : Bool). cond b true (each quietRole (named (row v .under)))) (sym no) ∙ t) ns) j
 
 module _ (s : Bytes) (h : Seen) (hd : Head) (i : HeadIs s h hd) (j : ℕ) where
   -- any other word
@@ -299,7 +178,7 @@ module _ (f k j : ℕ) (fits : j < length (caseRow f k)) (past : f % 2 ≤ j) wh
 -- ## A line that is read
 
 case-under : (v : Word) (ns : List ℕ) → v ≡ CASE → kids (row v .under) ns ≡ caseRow (getD ns (getD slots (wordNo v) 0 % 8) 0) (getD ns (getD slots (wordNo v) 0 / 8) 0)
-unfolding row wordNo slots caseRow
+unfolding row wordNo numbered slots slotsOf caseRow
 case-under v ns e = rw e
 
 -- a first child, one by the bit, and a last
@@ -330,13 +209,13 @@ pub record Around (v : Word) (ns : List ℕ) : Type 0 where
   pub is : kids (row v .under) ns ≡ first ∷ present (getD ns (getD slots (wordNo v) 0 % 8) 0) condition (plain ∷ [])
 
 around-of : (v : Word) (ns : List ℕ) → ((i : ℕ) → getD ns i 0 ≤ most (row v .fields) i) → (wordNo v ≡ 48) ⊎ (wordNo v ≡ 49) → Around v ns
-unfolding inOrder row wordNo slots roleNo most
+unfolding inOrder row wordNo numbered slots slotsOf roleNo most
 around-of v ns r (inl e) = rw (word-is v 48 e) (record { first = plain; quiet = refl; bit = rw (word-is v 48 e) at r 0; is = refl })
 around-of v ns r (inr e) = rw (word-is v 49 e) (record { first = inner AtParts; quiet = refl; bit = rw (word-is v 49 e) at r 0; is = refl })
 
 module _ (s : Bytes) (h : Seen) (hd : Head) (i : HeadIs s h hd) where
   pub case-roles : h .word ≡ 44 → roles hd ≡ caseRow (h .flag) (h .count)
-  unfolding roles flagOf countOf inOrder
+  unfolding roles flagOf countOf inOrder numbered
   case-roles e = rw (i .flag, i .count) (case-under (hd .word) (hd .nums) (word-is (hd .word) 44 (sym (i .word) ∙ e)))
 
   pub case-role : (j r : ℕ) → h .word ≡ 44 → (j < length (caseRow (h .flag) (h .count)) → r ≡ roleNo (getD (caseRow (h .flag) (h .count)) j plain)) → j < arity hd → r ≡ roleNo (getD (roles hd) j plain)

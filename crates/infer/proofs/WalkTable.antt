@@ -1,12 +1,19 @@
 -- What the table of words says of a line: its rule by its place and by its number, and how many children of which roles a rule has. Assumes nothing.
-use mathlib.Core.Path.{_≡_, refl, ap, subst}
+use mathlib.Core.Path.{_≡_, refl, sym, _∙_, ap}
+use mathlib.Core.Bool.{Bool, true, false, not, _&&_}
+use lib.Dec.{eqb}
+use borrow.Author.Tests.{eqb-true, eqb-false, not-true}
 use mathlib.Core.List.{List, [], _∷_}
 use Prim.Native.Nat.{ℕ, suc, zero, _≤_}
 use native.Mathlib.Omega.{arith}
-use lib.ListN.{length, getD, replicate}
-use Rattle.semantics.specs.Sheet.{kids, Word, CYRS, B, END, MAT, CRE, MER, WHE, WIT, RET, UNW, SET, REM, DEL, CAL, PRO, SP, SL, SM, RP, RL, LAB, PARTS, PART, NOD, REL, NULL, BOOL, INT, FLT, STR, VAR, PAR, UNR, EXI, PROP, IDX, SLI, LIS, MAP, KEY, CALL, BIN, UNA, CASE, ISN, IN, PAT, LCP, PCP, LPR, MPR, COP, COM, SHO, ALI, Head, Role, plain, inner, AtEntry, Typing, constant, varType, element, slice, listing, mapping, calling, operator, unary, casing, membership, comprehension, Rule, silent, entering, typed, row, rank, rule, place, roles, arity}
+use lib.ListN.{length}
+use Rattle.semantics.specs.Sheet.{kids, Word, Shape, nothing, one, two, bounds, arms, times, timesThen, around, oneThen, oneTimes, Head, Role, plain, condition, answer, inner, AtEntry, Typing, constant, varType, element, slice, listing, mapping, calling, operator, unary, casing, membership, comprehension, Rule, silent, entering, typed, row, rank, rule, place, roles, arity}
 use Rattle.semantics.proofs.All.{All, empty, also}
+use Rattle.semantics.proofs.Words.{holds, named, each, kids-each}
+use Rattle.walk_run.proofs.Silent.{entry-one}
 use Rattle.line.specs.Rows.{wordNo}
+use Rattle.hir.specs.Kids.{placeAt}
+use Rattle.hir.proofs.KidLaws.{both, place-rank}
 
 -- ## Rules and places
 
@@ -15,10 +22,25 @@ ByPlace silent r w = (r ≡ 13 → ⊥) × (r ≡ 11 → ⊥) × (w ≡ 40 → �
 ByPlace entering r w = (r ≡ 11) × (w ≡ 40)
 ByPlace (typed q) r w = (r ≡ 13) × (w ≡ 40 → ⊥)
 
+abbrev okPlace : Rule → ℕ → ℕ → Bool
+okPlace silent r w = not (eqb r 13) && (not (eqb r 11) && not (eqb w 40))
+okPlace entering r w = eqb r 11 && eqb w 40
+okPlace (typed q) r w = eqb r 13 && not (eqb w 40)
+
+differ : (a b : ℕ) → not (eqb a b) ≡ true → a ≡ b → ⊥
+differ a b e = eqb-false a b (not-true (eqb a b) e)
+
+place-true : (q : Rule) (r w : ℕ) → okPlace q r w ≡ true → ByPlace q r w
+place-true silent r w e =
+    let x = both (not (eqb r 13)) (not (eqb r 11) && not (eqb w 40)) e in
+    let y = both (not (eqb r 11)) (not (eqb w 40)) (x .1) in
+    (differ r 13 (x .0), differ r 11 (y .0), differ w 40 (y .1))
+place-true entering r w e = let x = both (eqb r 11) (eqb w 40) e in (eqb-true r 11 (x .0), eqb-true w 40 (x .1))
+place-true (typed q) r w e = let x = both (eqb r 13) (not (eqb w 40)) e in (eqb-true r 13 (x .0), differ w 40 (x .1))
+
 by-place : (v : Word) → ByPlace (row v .rule) (rank (row v .place)) (wordNo v)
 unfolding row rank wordNo
-by-place v =
-    elim v [ CYRS ↦ (λ e. omega arith, λ e. omega arith, λ e. omega arith) | B ↦ (λ e. omega arith, λ e. omega arith, λ e. omega arith) | END ↦ (λ e. omega arith, λ e. omega arith, λ e. omega arith) | MAT ↦ (λ e. omega arith, λ e. omega arith, λ e. omega arith) | CRE ↦ (λ e. omega arith, λ e. omega arith, λ e. omega arith) | MER ↦ (λ e. omega arith, λ e. omega arith, λ e. omega arith) | WHE ↦ (λ e. omega arith, λ e. omega arith, λ e. omega arith) | WIT ↦ (λ e. omega arith, λ e. omega arith, λ e. omega arith) | RET ↦ (λ e. omega arith, λ e. omega arith, λ e. omega arith) | UNW ↦ (λ e. omega arith, λ e. omega arith, λ e. omega arith) | SET ↦ (λ e. omega arith, λ e. omega arith, λ e. omega arith) | REM ↦ (λ e. omega arith, λ e. omega arith, λ e. omega arith) | DEL ↦ (λ e. omega arith, λ e. omega arith, λ e. omega arith) | CAL ↦ (λ e. omega arith, λ e. omega arith, λ e. omega arith) | PRO ↦ (λ e. omega arith, λ e. omega arith, λ e. omega arith) | SP ↦ (λ e. omega arith, λ e. omega arith, λ e. omega arith) | SL ↦ (λ e. omega arith, λ e. omega arith, λ e. omega arith) | SM ↦ (λ e. omega arith, λ e. omega arith, λ e. omega arith) | RP ↦ (λ e. omega arith, λ e. omega arith, λ e. omega arith) | RL ↦ (λ e. omega arith, λ e. omega arith, λ e. omega arith) | LAB ↦ (λ e. omega arith, λ e. omega arith, λ e. omega arith) | PARTS ↦ (λ e. omega arith, λ e. omega arith, λ e. omega arith) | PART ↦ (λ e. omega arith, λ e. omega arith, λ e. omega arith) | NOD ↦ (λ e. omega arith, λ e. omega arith, λ e. omega arith) | REL ↦ (λ e. omega arith, λ e. omega arith, λ e. omega arith) | NULL ↦ (refl, λ e. omega arith) | BOOL ↦ (refl, λ e. omega arith) | INT ↦ (refl, λ e. omega arith) | FLT ↦ (refl, λ e. omega arith) | STR ↦ (refl, λ e. omega arith) | VAR ↦ (refl, λ e. omega arith) | PAR ↦ (refl, λ e. omega arith) | UNR ↦ (refl, λ e. omega arith) | EXI ↦ (refl, λ e. omega arith) | PROP ↦ (refl, λ e. omega arith) | IDX ↦ (refl, λ e. omega arith) | SLI ↦ (refl, λ e. omega arith) | LIS ↦ (refl, λ e. omega arith) | MAP ↦ (refl, λ e. omega arith) | KEY ↦ (refl, refl) | CALL ↦ (refl, λ e. omega arith) | BIN ↦ (refl, λ e. omega arith) | UNA ↦ (refl, λ e. omega arith) | CASE ↦ (refl, λ e. omega arith) | ISN ↦ (refl, λ e. omega arith) | IN ↦ (refl, λ e. omega arith) | PAT ↦ (refl, λ e. omega arith) | LCP ↦ (refl, λ e. omega arith) | PCP ↦ (refl, λ e. omega arith) | LPR ↦ (refl, λ e. omega arith) | MPR ↦ (refl, λ e. omega arith) | COP ↦ (λ e. omega arith, λ e. omega arith, λ e. omega arith) | COM ↦ (λ e. omega arith, λ e. omega arith, λ e. omega arith) | SHO ↦ (λ e. omega arith, λ e. omega arith, λ e. omega arith) | ALI ↦ (λ e. omega arith, λ e. omega arith, λ e. omega arith) ]
+by-place v = place-true (row v .rule) (rank (row v .place)) (wordNo v) (holds (λ (v : Word). okPlace (row v .rule) (rank (row v .place)) (wordNo v)) refl v)
 
 -- the typing of a rule
 unfoldable pub typingOf : Rule → Typing
@@ -99,27 +121,109 @@ KidsOf casing ps = Unit {0}
 KidsOf membership ps = length ps ≡ 2
 KidsOf comprehension ps = 1 ≤ length ps
 
-abbrev KidsBy : Rule → List Role → Type 0
-KidsBy silent ps = Unit {0}
-KidsBy entering ps = ps ≡ plain ∷ []
-KidsBy (typed q) ps = KidsOf q ps
+-- shapes with a child, with two
+abbrev hasOne : Shape → Bool
+hasOne nothing = false
+hasOne two = true
+hasOne bounds = true
+hasOne arms = false
+hasOne (one p) = true
+hasOne (times i p) = false
+hasOne (timesThen i p j) = false
+hasOne (around p j) = true
+hasOne (oneThen j) = true
+hasOne (oneTimes i p) = true
 
-all-times : (k : ℕ) → All Entry (replicate k (inner AtEntry))
-all-times zero = empty
-all-times (suc k) = also refl (all-times k)
+one-kid : (s : Shape) → hasOne s ≡ true → (ns : List ℕ) → 1 ≤ length (kids s ns)
+one-kid nothing e ns = absurd (let z : _≡_ {A = ℕ} 0 1 = cc in omega arith)
+one-kid two e ns = omega arith
+one-kid bounds e ns = omega arith
+one-kid arms e ns = absurd (let z : _≡_ {A = ℕ} 0 1 = cc in omega arith)
+one-kid (one p) e ns = omega arith
+one-kid (times i p) e ns = absurd (let z : _≡_ {A = ℕ} 0 1 = cc in omega arith)
+one-kid (timesThen i p j) e ns = absurd (let z : _≡_ {A = ℕ} 0 1 = cc in omega arith)
+one-kid (around p j) e ns = omega arith
+one-kid (oneThen j) e ns = omega arith
+one-kid (oneTimes i p) e ns = omega arith
 
-row-kids : (v : Word) (ns : List ℕ) → KidsBy (row v .rule) (kids (row v .under) ns)
-unfolding row
-row-kids v ns =
-    elim v [ CYRS ↦ tt | B ↦ tt | END ↦ tt | MAT ↦ tt | CRE ↦ tt | MER ↦ tt | WHE ↦ tt | WIT ↦ tt | RET ↦ tt | UNW ↦ tt | SET ↦ tt | REM ↦ tt | DEL ↦ tt | CAL ↦ tt | PRO ↦ tt | SP ↦ tt | SL ↦ tt | SM ↦ tt | RP ↦ tt | RL ↦ tt | LAB ↦ tt | PARTS ↦ tt | PART ↦ tt | NOD ↦ tt | REL ↦ tt | NULL ↦ tt | BOOL ↦ tt | INT ↦ tt | FLT ↦ tt | STR ↦ tt | VAR ↦ tt | PAR ↦ tt | UNR ↦ tt | EXI ↦ tt | PROP ↦ tt | IDX ↦ omega arith | SLI ↦ omega arith | LIS ↦ tt | MAP ↦ all-times (getD ns 0 0) | KEY ↦ refl | CALL ↦ tt | BIN ↦ refl | UNA ↦ omega arith | CASE ↦ tt | ISN ↦ tt | IN ↦ refl | PAT ↦ tt | LCP ↦ omega arith | PCP ↦ omega arith | LPR ↦ tt | MPR ↦ tt | COP ↦ tt | COM ↦ tt | SHO ↦ tt | ALI ↦ tt ]
+abbrev hasTwo : Shape → Bool
+hasTwo nothing = false
+hasTwo two = true
+hasTwo bounds = false
+hasTwo arms = false
+hasTwo (one p) = false
+hasTwo (times i p) = false
+hasTwo (timesThen i p j) = false
+hasTwo (around p j) = false
+hasTwo (oneThen j) = false
+hasTwo (oneTimes i p) = false
+
+two-kids : (s : Shape) → hasTwo s ≡ true → (ns : List ℕ) → length (kids s ns) ≡ 2
+two-kids nothing e ns = absurd (let z : _≡_ {A = ℕ} 0 1 = cc in omega arith)
+two-kids two e ns = omega arith
+two-kids bounds e ns = absurd (let z : _≡_ {A = ℕ} 0 1 = cc in omega arith)
+two-kids arms e ns = absurd (let z : _≡_ {A = ℕ} 0 1 = cc in omega arith)
+two-kids (one p) e ns = absurd (let z : _≡_ {A = ℕ} 0 1 = cc in omega arith)
+two-kids (times i p) e ns = absurd (let z : _≡_ {A = ℕ} 0 1 = cc in omega arith)
+two-kids (timesThen i p j) e ns = absurd (let z : _≡_ {A = ℕ} 0 1 = cc in omega arith)
+two-kids (around p j) e ns = absurd (let z : _≡_ {A = ℕ} 0 1 = cc in omega arith)
+two-kids (oneThen j) e ns = absurd (let z : _≡_ {A = ℕ} 0 1 = cc in omega arith)
+two-kids (oneTimes i p) e ns = absurd (let z : _≡_ {A = ℕ} 0 1 = cc in omega arith)
+
+abbrev entryRole : Role → Bool
+entryRole plain = false
+entryRole condition = false
+entryRole answer = false
+entryRole (inner q) = eqb (rank q) 11
+
+entry-role : (p : Role) → entryRole p ≡ true → Entry p
+entry-role plain e = absurd (let z : _≡_ {A = ℕ} 0 1 = cc in omega arith)
+entry-role condition e = absurd (let z : _≡_ {A = ℕ} 0 1 = cc in omega arith)
+entry-role answer e = absurd (let z : _≡_ {A = ℕ} 0 1 = cc in omega arith)
+entry-role (inner q) e = ap inner (sym (place-rank q) ∙ (ap placeAt (eqb-true (rank q) 11 e) ∙ (unfold placeAt in refl)))
+
+abbrev okKids : Typing → Shape → Bool
+okKids (constant t) s = true
+okKids varType s = true
+okKids element s = hasOne s
+okKids slice s = hasOne s
+okKids listing s = true
+okKids mapping s = each entryRole (named s)
+okKids calling s = true
+okKids operator s = hasTwo s
+okKids unary s = hasOne s
+okKids casing s = true
+okKids membership s = hasTwo s
+okKids comprehension s = hasOne s
+
+kids-by : (q : Typing) (s : Shape) → okKids q s ≡ true → (ns : List ℕ) → KidsOf q (kids s ns)
+kids-by (constant t) s e ns = tt
+kids-by varType s e ns = tt
+kids-by element s e ns = one-kid s e ns
+kids-by slice s e ns = one-kid s e ns
+kids-by listing s e ns = tt
+kids-by mapping s e ns = kids-each entryRole entry-role s e ns
+kids-by calling s e ns = tt
+kids-by operator s e ns = two-kids s e ns
+kids-by unary s e ns = one-kid s e ns
+kids-by casing s e ns = tt
+kids-by membership s e ns = two-kids s e ns
+kids-by comprehension s e ns = one-kid s e ns
+
+abbrev okRow : Rule → Shape → Bool
+okRow silent s = true
+okRow entering s = true
+okRow (typed q) s = okKids q s
 
 pub kids-at : (h : Head) (q : Typing) → rule h ≡ typed q → KidsOf q (roles h)
-unfolding roles
-kids-at h q e = subst (λ r. KidsBy r (kids (row (h .word) .under) (h .nums))) e (row-kids (h .word) (h .nums))
+unfolding roles row each rank
+kids-at h q e =
+    let w = h .word in
+    let t : okRow (row w .rule) (row w .under) ≡ true = holds (λ (v : Word). okRow (row v .rule) (row v .under)) refl w in
+    kids-by q (row w .under) (ap (λ (r : Rule). okRow r (row w .under)) (sym e) ∙ t) (h .nums)
 
 pub entry-roles : (h : Head) → rule h ≡ entering → roles h ≡ plain ∷ []
-unfolding roles
-entry-roles h e = subst (λ r. KidsBy r (kids (row (h .word) .under) (h .nums))) e (row-kids (h .word) (h .nums))
+entry-roles h e = entry-one h e
 
 pub entry-arity : (h : Head) → rule h ≡ entering → arity h ≡ 1
 unfolding arity

@@ -4,17 +4,21 @@ use mathlib.Core.List.{List, [], _∷_, _++_, append-assoc, append-nil, map}
 use mathlib.Core.Bool.{Bool, true, false, cond, _&&_}
 use Prim.Native.Nat.{ℕ, suc, zero, _+_, _/_, _%_, _≤_, _<_}
 use native.Mathlib.Omega.{arith}
-use lib.Dec.{eqb, leb}
+use lib.Dec.{eqb, ltb, leb}
 use lib.ListN.{length, getD, take, drop, replicate, length-append, length-map}
 use lib.Seq.{drop-drop}
-use borrow.Author.Tests.{eqb-true, eqb-false, leb-true, ne-eqb, eq-eqb}
+use borrow.Author.Tests.{eqb-true, eqb-false, ltb-true, leb-true, ne-eqb, eq-eqb}
 use Rattle.semantics.specs.Bytes.{Bytes}
-use Rattle.semantics.specs.Sheet.{kids, Word, CYRS, B, END, MAT, CRE, MER, WHE, WIT, RET, UNW, SET, REM, DEL, CAL, PRO, SP, SL, SM, RP, RL, LAB, PARTS, PART, NOD, REL, NULL, BOOL, INT, FLT, STR, VAR, PAR, UNR, EXI, PROP, IDX, SLI, LIS, MAP, KEY, CALL, BIN, UNA, CASE, ISN, IN, PAT, LCP, PCP, LPR, MPR, COP, COM, SHO, ALI, Place, AtFirst, AtBinding, AtClause, AtEnd, AtProjection, AtSetItem, AtRemoveItem, AtLabel, AtParts, AtPart, AtElement, AtEntry, AtItem, AtExpression, Role, plain, condition, answer, inner, Typing, Rule, silent, entering, typed, present, armRoles, deeper, Head, rank, place, rule, row, Want, clauses, at, wanted, fits, beyond, ok, under, after, roles, arity}
+use Rattle.semantics.specs.Sheet.{kids, Word, Place, AtFirst, AtBinding, AtClause, AtEnd, AtProjection, AtSetItem, AtRemoveItem, AtLabel, AtParts, AtPart, AtElement, AtEntry, AtItem, AtExpression, Role, plain, condition, answer, inner, Typing, Rule, silent, entering, typed, present, armRoles, deeper, Head, rank, place, rule, row, Want, clauses, at, wanted, fits, beyond, ok, under, after, roles, arity}
 use Rattle.semantics.specs.Ty.{Ty}
 use Rattle.semantics.specs.Walk.{Env, Res, Top, no-part, topsOf, tops, topsBy, through, lastTests, child, on, step, walk, envOf, results, allTops, allTests, typing}
+use Rattle.semantics.proofs.All.{All, empty, also}
+use Rattle.semantics.proofs.Words.{holds, named, each, kids-each}
 use Rattle.hir.specs.Lines.{Met, all-met, meets, Ascends, no-binding, ascends}
 use Rattle.hir.specs.Check.{Laid}
 use Rattle.hir.specs.declared.valid.Outline.{Outline}
+use Rattle.hir.proofs.KidLaws.{both}
+use Rattle.hir.proofs.TopLaws.{plain-rule}
 use Rattle.hir.proofs.LinesLaws.{met-split, Inner, AllIn, none-in, one-in, inner-under, met-walk}
 use Rattle.tops.specs.Tops.{fronts, topsFor, zipTops, outTops}
 
@@ -31,8 +35,7 @@ okRule p k = cond (eqb p 13) (eqb k 2) (cond (eqb p 11) (eqb k 1) (eqb k 0))
 
 rule-rule : (v : Word) → okRule (rank (row v .place)) (kind (row v .rule)) ≡ true
 unfolding row rank
-rule-rule v =
-    elim v [ CYRS ↦ refl | B ↦ refl | END ↦ refl | MAT ↦ refl | CRE ↦ refl | MER ↦ refl | WHE ↦ refl | WIT ↦ refl | RET ↦ refl | UNW ↦ refl | SET ↦ refl | REM ↦ refl | DEL ↦ refl | CAL ↦ refl | PRO ↦ refl | SP ↦ refl | SL ↦ refl | SM ↦ refl | RP ↦ refl | RL ↦ refl | LAB ↦ refl | PARTS ↦ refl | PART ↦ refl | NOD ↦ refl | REL ↦ refl | NULL ↦ refl | BOOL ↦ refl | INT ↦ refl | FLT ↦ refl | STR ↦ refl | VAR ↦ refl | PAR ↦ refl | UNR ↦ refl | EXI ↦ refl | PROP ↦ refl | IDX ↦ refl | SLI ↦ refl | LIS ↦ refl | MAP ↦ refl | KEY ↦ refl | CALL ↦ refl | BIN ↦ refl | UNA ↦ refl | CASE ↦ refl | ISN ↦ refl | IN ↦ refl | PAT ↦ refl | LCP ↦ refl | PCP ↦ refl | LPR ↦ refl | MPR ↦ refl | COP ↦ refl | COM ↦ refl | SHO ↦ refl | ALI ↦ refl ]
+rule-rule v = holds (λ (v : Word). okRule (rank (row v .place)) (kind (row v .rule))) refl v
 
 is-typed : (p k : ℕ) → okRule p k ≡ true → p ≡ 13 → k ≡ 2
 is-typed p k e h = eqb-true k 2 (rw (eq-eqb p 13 h) at e)
@@ -94,148 +97,29 @@ data FineRole (c : ℕ) : Role → Type 0 where
   fine-answer : FineRole c answer
   fine-inner : (x : Place) → 3 < rank x → rank x < 13 → (rank x ≡ 11 → c ≡ 2) → FineRole c (inner x)
 
-data Fine (c : ℕ) : List Role → Type 0 where
-  no-role : Fine c []
-  a-role : {p : Role} {ps : List Role} → FineRole c p → Fine c ps → Fine c (p ∷ ps)
+abbrev Fine : ℕ → List Role → Type 0
+Fine c ps = All (FineRole c) ps
 
-times-fine : {c : ℕ} (k : ℕ) {p : Role} → FineRole c p → {r : List Role} → Fine c r → Fine c (replicate k p ++ r)
-times-fine zero g x = x
-times-fine (suc k) g x = a-role g (times-fine k g x)
+abbrev fineRole : ℕ → Role → Bool
+fineRole c plain = true
+fineRole c condition = true
+fineRole c answer = true
+fineRole c (inner x) = ltb 3 (rank x) && (ltb (rank x) 13 && cond (eqb (rank x) 11) (eqb c 2) true)
 
-only-fine : {c : ℕ} (k : ℕ) {p : Role} → FineRole c p → Fine c (replicate k p)
-only-fine zero g = no-role
-only-fine (suc k) g = a-role g (only-fine k g)
-
-present-fine : {c : ℕ} (k : ℕ) {p : Role} → FineRole c p → {r : List Role} → Fine c r → Fine c (present k p r)
-present-fine zero g x = x
-present-fine (suc k) g x = a-role g x
-
-arms-fine : {c : ℕ} (k : ℕ) {p : Role} → FineRole c p → {r : List Role} → Fine c r → Fine c (armRoles p k r)
-unfolding armRoles
-arms-fine zero g x = x
-arms-fine (suc k) g x = a-role g (a-role fine-answer (arms-fine k g x))
-
-if-fine : {c : ℕ} (b : Bool) {p q : Role} → FineRole c p → FineRole c q → FineRole c (cond b p q)
-if-fine true g h = g
-if-fine false g h = h
+fine-true : (c : ℕ) (p : Role) → fineRole c p ≡ true → FineRole c p
+fine-true c plain e = fine-plain
+fine-true c condition e = fine-condition
+fine-true c answer e = fine-answer
+fine-true c (inner x) e =
+    let a = both (ltb 3 (rank x)) (ltb (rank x) 13 && cond (eqb (rank x) 11) (eqb c 2) true) e in
+    let b = both (ltb (rank x) 13) (cond (eqb (rank x) 11) (eqb c 2) true) (a .1) in
+    fine-inner x (ltb-true 3 (rank x) (a .0)) (ltb-true (rank x) 13 (b .0)) (λ d. eqb-true c 2 (rw (eq-eqb (rank x) 11 d) at (b .1)))
 
 roles-fine : (v : Word) (ns : List ℕ) → Fine (kind (row v .rule)) (kids (row v .under) ns)
-unfolding row rank
-roles-fine CYRS ns = no-role
-roles-fine B ns = no-role
-roles-fine END ns = no-role
-roles-fine MAT ns = a-role (fine-inner AtParts (omega arith) (omega arith) (omega arith)) no-role
-roles-fine CRE ns = a-role (fine-inner AtParts (omega arith) (omega arith) (omega arith)) no-role
-roles-fine MER ns = a-role (fine-inner AtParts (omega arith) (omega arith) (omega arith)) no-role
-roles-fine WHE ns = a-role fine-plain no-role
-roles-fine WIT ns = times-fine (getD ns 1 0) (fine-inner AtProjection (omega arith) (omega arith) (omega arith)) (present-fine (getD ns 0 0) fine-plain no-role)
-roles-fine RET ns = only-fine (getD ns 1 0) (fine-inner AtProjection (omega arith) (omega arith) (omega arith))
-roles-fine UNW ns = a-role fine-plain no-role
-roles-fine SET ns = only-fine (getD ns 0 0) (fine-inner AtSetItem (omega arith) (omega arith) (omega arith))
-roles-fine REM ns = only-fine (getD ns 0 0) (fine-inner AtRemoveItem (omega arith) (omega arith) (omega arith))
-roles-fine DEL ns = only-fine (getD ns 1 0) fine-plain
-roles-fine CAL ns = only-fine (getD ns 1 0) fine-plain
-roles-fine PRO ns = a-role fine-plain no-role
-roles-fine SP ns = a-role fine-plain (a-role fine-plain no-role)
-roles-fine SL ns = only-fine (getD ns 0 0) (fine-inner AtLabel (omega arith) (omega arith) (omega arith))
-roles-fine SM ns = a-role fine-plain no-role
-roles-fine RP ns = a-role fine-plain no-role
-roles-fine RL ns = only-fine (getD ns 0 0) (fine-inner AtLabel (omega arith) (omega arith) (omega arith))
-roles-fine LAB ns = no-role
-roles-fine PARTS ns = only-fine (getD ns 0 0) (fine-inner AtPart (omega arith) (omega arith) (omega arith))
-roles-fine PART ns = only-fine (getD ns 1 0) (fine-inner AtElement (omega arith) (omega arith) (omega arith))
-roles-fine NOD ns = times-fine (getD ns 1 0) (fine-inner AtLabel (omega arith) (omega arith) (omega arith)) (present-fine (getD ns 0 0) fine-plain no-role)
-roles-fine REL ns = times-fine (getD ns 5 0) (fine-inner AtLabel (omega arith) (omega arith) (omega arith)) (present-fine (getD ns 4 0) fine-plain no-role)
-roles-fine NULL ns = no-role
-roles-fine BOOL ns = no-role
-roles-fine INT ns = no-role
-roles-fine FLT ns = no-role
-roles-fine STR ns = no-role
-roles-fine VAR ns = no-role
-roles-fine PAR ns = no-role
-roles-fine UNR ns = no-role
-roles-fine EXI ns = no-role
-roles-fine PROP ns = a-role fine-plain no-role
-roles-fine IDX ns = a-role fine-plain (a-role fine-plain no-role)
-roles-fine SLI ns = a-role fine-plain (present-fine (getD ns 0 0 % 2) fine-plain (present-fine (getD ns 0 0 / 2) fine-plain no-role))
-roles-fine LIS ns = only-fine (getD ns 0 0) fine-plain
-roles-fine MAP ns = only-fine (getD ns 0 0) (fine-inner AtEntry (omega arith) (omega arith) (omega arith))
-roles-fine KEY ns = a-role fine-plain no-role
-roles-fine CALL ns = only-fine (getD ns 1 0) fine-plain
-roles-fine BIN ns = a-role fine-plain (a-role fine-plain no-role)
-roles-fine UNA ns = a-role fine-plain no-role
-roles-fine CASE ns =
-    present-fine (getD ns 0 0 % 2) fine-plain (arms-fine (getD ns 1 0) (if-fine (eqb (getD ns 0 0 % 2) 0) fine-condition fine-plain) (present-fine (getD ns 0 0 / 2) fine-answer no-role))
-roles-fine ISN ns = a-role fine-plain no-role
-roles-fine IN ns = a-role fine-plain (a-role fine-plain no-role)
-roles-fine PAT ns = a-role (fine-inner AtParts (omega arith) (omega arith) (omega arith)) no-role
-roles-fine LCP ns = a-role fine-plain (present-fine (getD ns 0 0) fine-condition (a-role fine-plain no-role))
-roles-fine PCP ns = a-role (fine-inner AtParts (omega arith) (omega arith) (omega arith)) (present-fine (getD ns 0 0) fine-condition (a-role fine-plain no-role))
-roles-fine LPR ns = a-role fine-plain (present-fine (getD ns 1 0) fine-plain no-role)
-roles-fine MPR ns = a-role fine-plain (only-fine (getD ns 0 0) (fine-inner AtItem (omega arith) (omega arith) (omega arith)))
-roles-fine COP ns = no-role
-roles-fine COM ns = a-role fine-plain no-role
-roles-fine SHO ns = no-role
-roles-fine ALI ns = a-role fine-plain no-role
-
--- lines that hold no others
-bare-rule : (v : Word) (ns : List ℕ) → rank (row v .place) < 4 → (rank (row v .place) ≡ 2 → ⊥) → kids (row v .under) ns ≡ []
-unfolding row rank
-bare-rule CYRS ns a b = refl
-bare-rule B ns a b = refl
-bare-rule END ns a b = refl
-bare-rule MAT ns a b = absurd (b refl)
-bare-rule CRE ns a b = absurd (b refl)
-bare-rule MER ns a b = absurd (b refl)
-bare-rule WHE ns a b = absurd (b refl)
-bare-rule WIT ns a b = absurd (b refl)
-bare-rule RET ns a b = absurd (b refl)
-bare-rule UNW ns a b = absurd (b refl)
-bare-rule SET ns a b = absurd (b refl)
-bare-rule REM ns a b = absurd (b refl)
-bare-rule DEL ns a b = absurd (b refl)
-bare-rule CAL ns a b = absurd (b refl)
-bare-rule PRO ns a b = absurd (omega arith)
-bare-rule SP ns a b = absurd (omega arith)
-bare-rule SL ns a b = absurd (omega arith)
-bare-rule SM ns a b = absurd (omega arith)
-bare-rule RP ns a b = absurd (omega arith)
-bare-rule RL ns a b = absurd (omega arith)
-bare-rule LAB ns a b = absurd (omega arith)
-bare-rule PARTS ns a b = absurd (omega arith)
-bare-rule PART ns a b = absurd (omega arith)
-bare-rule NOD ns a b = absurd (omega arith)
-bare-rule REL ns a b = absurd (omega arith)
-bare-rule NULL ns a b = absurd (omega arith)
-bare-rule BOOL ns a b = absurd (omega arith)
-bare-rule INT ns a b = absurd (omega arith)
-bare-rule FLT ns a b = absurd (omega arith)
-bare-rule STR ns a b = absurd (omega arith)
-bare-rule VAR ns a b = absurd (omega arith)
-bare-rule PAR ns a b = absurd (omega arith)
-bare-rule UNR ns a b = absurd (omega arith)
-bare-rule EXI ns a b = absurd (omega arith)
-bare-rule PROP ns a b = absurd (omega arith)
-bare-rule IDX ns a b = absurd (omega arith)
-bare-rule SLI ns a b = absurd (omega arith)
-bare-rule LIS ns a b = absurd (omega arith)
-bare-rule MAP ns a b = absurd (omega arith)
-bare-rule KEY ns a b = absurd (omega arith)
-bare-rule CALL ns a b = absurd (omega arith)
-bare-rule BIN ns a b = absurd (omega arith)
-bare-rule UNA ns a b = absurd (omega arith)
-bare-rule CASE ns a b = absurd (omega arith)
-bare-rule ISN ns a b = absurd (omega arith)
-bare-rule IN ns a b = absurd (omega arith)
-bare-rule PAT ns a b = absurd (omega arith)
-bare-rule LCP ns a b = absurd (omega arith)
-bare-rule PCP ns a b = absurd (omega arith)
-bare-rule LPR ns a b = absurd (omega arith)
-bare-rule MPR ns a b = absurd (omega arith)
-bare-rule COP ns a b = absurd (omega arith)
-bare-rule COM ns a b = absurd (omega arith)
-bare-rule SHO ns a b = absurd (omega arith)
-bare-rule ALI ns a b = absurd (omega arith)
+unfolding each row rank
+roles-fine v ns =
+    let c = kind (row v .rule) in
+    kids-each (fineRole c) (fine-true c) (row v .under) (holds (λ (v : Word). each (fineRole (kind (row v .rule))) (named (row v .under))) refl v) ns
 
 all-fine : (h : Head) → Fine (kind (rule h)) (roles h)
 unfolding roles
@@ -250,8 +134,8 @@ fine-in fine-answer d = omega arith
 fine-in (fine-inner x a b o) d = a
 
 kids-in : {c : ℕ} {ps : List Role} → Fine c ps → (d : ℕ) → AllIn (map (wanted d) ps)
-kids-in no-role d = none-in
-kids-in (a-role g x) d = one-in (fine-in g d) (kids-in x d)
+kids-in empty d = none-in
+kids-in (also g x) d = one-in (fine-in g d) (kids-in x d)
 
 -- what the report has of a child is what its role makes of it
 front-as : {c : ℕ} {p : Role} → FineRole c p → (d : ℕ) (h : Head) (r : Res) → fits (wanted d p) (rank (place h)) ≡ true → topsOf p r ≡ topsFor (rule h) r
@@ -390,8 +274,8 @@ skip-tests env n h hs e =
 kids-tops : {c : ℕ} {ps : List Role} → Fine c ps → (d : ℕ) (vs : List Want) (hs ks : List Head) → Met (map (wanted d) ps ++ vs) hs ks → (env : Env) (n : ℕ)
     → tops ps (take (length ps) (walk env n hs)) ++ zipTops (drop (length ps) (fronts hs)) (drop (length ps) (walk env n hs)) ≡ zipTops (fronts hs) (walk env n hs)
 unfolding tops zipTops fronts walk
-kids-tops no-role d vs hs ks m env n = refl
-kids-tops (a-role {p = p} {ps = ps} g x) d vs hs ks m env n =
+kids-tops empty d vs hs ks m env n = refl
+kids-tops (also {x = p} {xs = ps} g x) d vs hs ks m env n =
     let s = some-there m in
     subst (λ (ys : List Head). tops (p ∷ ps) (take (suc (length ps)) (walk env n ys)) ++ zipTops (drop (suc (length ps)) (fronts ys)) (drop (suc (length ps)) (walk env n ys)) ≡ zipTops (fronts ys) (walk env n ys)) (sym (s .2))
     (go (s .0) (s .1) (subst (λ (ys : List Head). Met (wanted d p ∷ (map (wanted d) ps ++ vs)) ys ks) (s .2) m) (kids-tops x d vs))
@@ -440,7 +324,7 @@ out-none env n = (refl, refl)
 
 bare-roles : (h : Head) → rank (place h) < 4 → (rank (place h) ≡ 2 → ⊥) → roles h ≡ []
 unfolding roles
-bare-roles h a b = bare-rule (h .word) (h .nums) a b
+bare-roles h a b = plain-rule (h .word) (h .nums) a b
 
 after-end : (h : Head) → rank (place h) ≡ 3 → after h ≡ []
 unfolding after
@@ -489,10 +373,6 @@ binds-out (ascends {h = h} {hs = hs} one low more) env n rest =
 after-clause : (h : Head) → rank (place h) ≡ 2 → after h ≡ clauses ∷ []
 unfolding after
 after-clause h e = rw (ne-eqb (rank (place h)) 0 (λ d. omega arith), ne-eqb (rank (place h)) 1 (λ d. omega arith), eq-eqb (rank (place h)) 2 e, after)
-
-both : (a b : Bool) → (a && b) ≡ true → (a ≡ true) × (b ≡ true)
-both true b e = (refl, e)
-both false b e = absurd (let z : _≡_ {A = ℕ} 0 1 = cc in omega arith)
 
 clause-rank : (p : ℕ) → fits clauses p ≡ true → (2 ≤ p) × (p ≤ 3)
 unfolding fits
@@ -580,11 +460,11 @@ stand-end h hs x e = go (x .opens) (x .met)
 
 open-kids : {c : ℕ} {ps : List Role} {ws : List Want} → Fine c ps → c ≡ 0 → Open ws → Open (map (wanted 1) ps ++ ws)
 unfolding rank
-open-kids no-role e y = y
-open-kids (a-role fine-plain x) e y = open-in {x = AtExpression} (omega arith) (λ z. omega arith) (open-kids x e y)
-open-kids (a-role fine-condition x) e y = open-in {x = AtExpression} (omega arith) (λ z. omega arith) (open-kids x e y)
-open-kids (a-role fine-answer x) e y = open-in {x = AtExpression} (omega arith) (λ z. omega arith) (open-kids x e y)
-open-kids (a-role (fine-inner p a b o) x) e y = open-in a (λ z. omega (arith, o z)) (open-kids x e y)
+open-kids empty e y = y
+open-kids (also fine-plain x) e y = open-in {x = AtExpression} (omega arith) (λ z. omega arith) (open-kids x e y)
+open-kids (also fine-condition x) e y = open-in {x = AtExpression} (omega arith) (λ z. omega arith) (open-kids x e y)
+open-kids (also fine-answer x) e y = open-in {x = AtExpression} (omega arith) (λ z. omega arith) (open-kids x e y)
+open-kids (also (fine-inner p a b o) x) e y = open-in a (λ z. omega (arith, o z)) (open-kids x e y)
 
 -- below a line that is no expression the depth is the same
 same-depth : (p : Place) → (rank p ≡ 13 → ⊥) → deeper (at p 1) ≡ 1

@@ -51,7 +51,7 @@ silent-free h e =
     let t : okUnder (row w .rule) (row w .under) ≡ true = holds (λ (v : Word). okUnder (row v .rule) (row v .under)) refl w in
     kids-each freeRole free-true (row w .under) (ap (λ (r : Rule). okUnder r (row w .under)) (sym e) ∙ t) (h .nums)
 
-entry-one : (h : Head) → rule h ≡ entering → roles h ≡ plain ∷ []
+pub entry-one : (h : Head) → rule h ≡ entering → roles h ≡ plain ∷ []
 unfolding row roles
 entry-one h e =
     let w = h .word in
