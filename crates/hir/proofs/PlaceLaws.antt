@@ -138,12 +138,12 @@ module _ (s : Bytes) (p : ℕ) (k : Seen) (w : Want) (ws : List Want) (n : ℕ) 
           }
 
 -- a word that was read is one of the table's
-pub word-known : (s : Bytes) (p : ℕ) (k : Seen) (ls : List Bytes) → ReadAs s p k ls → k .word < 56
+pub word-known : (s : Bytes) (p : ℕ) (k : Seen) (ls : List Bytes) → ReadAs s p k ls → k .word < 64
 word-known s p k [] r = omega arith
 word-known s p k (l ∷ []) r = omega arith
 word-known s p k (l ∷ l′ ∷ ls) r = go (lineSays l) (r .3)
   where
-    go : (x : Plain) → SaysAs s k x → k .word < 56
+    go : (x : Plain) → SaysAs s k x → k .word < 64
     go unknown e = omega arith
     go (known v (bad c)) e = omega (arith, e .0, word-range v .1)
     go (known v (ok h)) e = omega (arith, e .1 .word, word-range (h .word) .1)

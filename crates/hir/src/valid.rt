@@ -52,7 +52,7 @@ fn group_size(g: usize, count: u64, flag: u64) -> usize
 
 // What stands right below this line.
 pub fn kids_of(h: Head) -> Kids
-    requires { ⌜ (h .word < 56) × (h .count ≤ 9999) × (h .flag ≤ 3) ⌝ }
+    requires { ⌜ (h .word < 64) × (h .count ≤ 9999) × (h .flag ≤ 3) ⌝ }
     ensures { λ r. ⌜ KidsAs h r ⌝ }
 {
     let g = group1_of(h.word);
@@ -75,7 +75,7 @@ pub fn class_at(k: Kids, j: usize) -> usize
 
 // What is wrong with this line at a place for a class, with so many levels of depth left.
 fn verdict(h: Head, class: usize, depth: usize) -> u32
-    requires { ⌜ h .word < 56 ⌝ }
+    requires { ⌜ h .word < 64 ⌝ }
     ensures { λ r. ⌜ r ≡ verdictOf (getD classes (h .word) 0) class (h .why) depth ⌝ }
 {
     if class_of(h.word) != class {

@@ -39,7 +39,7 @@ use Rattle.finish.specs.declared.Ended.the-variants.{Typed}
 use Rattle.finish.proofs.Fronts.{put-type}
 use Rattle.infer.specs.Steps.{typingNo, ruleNo, AtMostOne, One, Two, Items, LastOne, Entries, EnvAs, EndAt, SomeEnd, EndedBy, SpeltAs, LetterBy, ConstantBy, SomeQuiet, QuietBy}
 use Rattle.infer.specs.declared.step.Env.{Env as Binds}
-use Rattle.infer.proofs.RoleLaws.{inOrder, word-is, Missed, missed-out, rest-rule}
+use Rattle.infer.proofs.RoleLaws.{inOrder, typedFrom, typedMany, word-is, Missed, missed-out, rest-rule}
 use Rattle.infer.proofs.StepLaws.{typingOf, typing-at}
 
 -- ## Names
@@ -94,10 +94,10 @@ unfolding constantLine
 arm-letter k n w t o v u e r m =
     ap (λ (i : ℕ). i ∷ 44 ∷ []) (sym t ∙ ap (λ (i : ℕ). getD letters i 80) (sym o ∙ e)) ∙ (line-row v (λ z. m (e ∙ z)) ∙ ap constantLine r)
 
-pub rest-letter : (n w : ℕ) → Missed 26 25 w → LetterBy w n
+pub rest-letter : (n w : ℕ) → Missed typedFrom typedMany w → LetterBy w n
 unfolding ruleNo typingNo
 rest-letter n w p v t e r m =
-    let z = rest-rule v (rw e at p, λ o. m (e ∙ o)) in
+    let z = rest-rule v (rw e at p) in
     let y : ruleNo (row v .rule) ≡ 0 = ap ruleNo r in
     absurd (omega arith)
 

@@ -54,16 +54,23 @@ missed-out b (suc k) w m h = beyond (missed-out b k w (m .0) h) (m .1)
     beyond : b + k ≤ w → (w ≡ k + b → ⊥) → b + suc k ≤ w
     beyond l n = omega arith
 
-outside : (n : ℕ) → Missed 26 26 n → leb 26 n && ltb n 52 ≡ false
-outside n p = go (leb 26 n) refl
+-- the words with a type, and the entry, by number: the first, and how many
+abbrev pub typedFrom : ℕ
+typedFrom = 26
+
+abbrev pub typedMany : ℕ
+typedMany = 26
+
+outside : (n : ℕ) → Missed typedFrom typedMany n → leb typedFrom n && ltb n (typedFrom + typedMany) ≡ false
+outside n p = go (leb typedFrom n) refl
   where
-    go : (b : Bool) → leb 26 n ≡ b → leb 26 n && ltb n 52 ≡ false
-    go true d = rw (d, le-ltb n 52 (missed-out 26 26 n p (leb-true 26 n d)))
+    go : (b : Bool) → leb typedFrom n ≡ b → leb typedFrom n && ltb n (typedFrom + typedMany) ≡ false
+    go true d = rw (d, le-ltb n (typedFrom + typedMany) (missed-out typedFrom typedMany n p (leb-true typedFrom n d)))
     go false d = rw d
 
-pub rest-rule : (v : Word) → Missed 26 26 (wordNo v) → 12 ≡ ruleNo (row v .rule)
+pub rest-rule : (v : Word) → Missed typedFrom typedMany (wordNo v) → 12 ≡ ruleNo (row v .rule)
 unfolding wordNo row ruleNo typingNo
-rest-rule v p = sym (every-where (λ (v : Word). not (leb 26 (wordNo v) && ltb (wordNo v) 52)) (λ (v : Word). ruleNo (row v .rule)) 12 refl v (ap not (outside (wordNo v) p)))
+rest-rule v p = sym (every-where (λ (v : Word). not (leb typedFrom (wordNo v) && ltb (wordNo v) (typedFrom + typedMany))) (λ (v : Word). ruleNo (row v .rule)) 12 refl v (ap not (outside (wordNo v) p)))
 
 -- ## Words whose children have no condition and no answer
 

@@ -58,7 +58,7 @@ pub record InferInv (s : Bytes) (b : Binds) (h : Seen) (depth : ℕ) (work₀ ou
   pub as-long : length out ≡ length out₀
 
 module _ {s : Bytes} {b : Binds} {h : Seen} {cur : Cur} {depth : ℕ} {workE : Bytes} {y₀ : Tally} (x : ExprAsk s b h cur depth workE y₀) where
-  pub infer-kids : (h .word < 56) × (h .count ≤ 9999) × (h .flag ≤ 3)
+  pub infer-kids : (h .word < 64) × (h .count ≤ 9999) × (h .flag ≤ 3)
   infer-kids = asks-kids s h (x .at .tree .head) (x .at .is)
 
   pub infer-past : cur .line .0 < 4294967295
@@ -224,7 +224,7 @@ module _ {s : Bytes} {b : Binds} {k : Seen} {c₀ : Cur} {depth : ℕ} {work₀ 
           pub tree-on : TreeInv s b depth work₀ out₀ c₀ y₀ work′ out′ c′ z (todo - 1)
           tree-on = record { all = λ p t q env u. let L = i .all p t q env u in pat-on L more g read (x .at .deep) (is-at L) u W e; long = tree-long; as-long = tree-out }
 
-    pub tree-kids : (g .word < 56) × (g .count ≤ 9999) × (g .flag ≤ 3)
+    pub tree-kids : (g .word < 64) × (g .count ≤ 9999) × (g .flag ≤ 3)
     tree-kids = asks-kids s g (pat-first tree-loop more .head) (pat-read tree-loop more g read .0)
 
     module _ (isn't : classOf g ≡ 13 → ⊥) {kk : Kids} (hung : KidsAs g kk) where

@@ -141,7 +141,7 @@ spelt-name s k h a i x = part-slice a (k .stop) s (x .below) ∙ x .same s ∙ n
 
 -- ## A line's numbers
 
-pub asks-kids : (s : Bytes) (k : Seen) (h : Head) → HeadIs s k h → (k .word < 56) × (k .count ≤ 9999) × (k .flag ≤ 3)
+pub asks-kids : (s : Bytes) (k : Seen) (h : Head) → HeadIs s k h → (k .word < 64) × (k .count ≤ 9999) × (k .flag ≤ 3)
 asks-kids s k h i = (omega (arith, i .word, word-range (h .word) .1), count-small s k h i, flag-small s k h i)
 
 times-long : {A : Type 0} (n m : ℕ) (a b : A) → length (replicate n a ++ replicate m b) ≡ n + m

@@ -152,6 +152,7 @@ fn letter_of(word: usize) -> u8
         48 => 80, // lcp
         49 => 80, // pcp
         50 => 67, // lpr
+        51 => 75, // mpr
         _ => 80,
     }
 }

@@ -160,7 +160,7 @@ no-such : (o : Option Word) (w : ℕ) → w ≡ numberOf o → w ≡ 0 → o ≡
 no-such none w e z = refl
 no-such (some v) w e z = absurd (omega (arith, word-range v .0))
 
-word-less : (o : Option Word) (w : ℕ) → w ≡ numberOf o → w < 56
+word-less : (o : Option Word) (w : ℕ) → w ≡ numberOf o → w < 64
 word-less none w e = omega arith
 word-less (some v) w e = omega (arith, word-range v .1)
 
@@ -182,7 +182,7 @@ module _ (s : Bytes) (at q : ℕ) (inside : at ≤ length s) (e : Ends 44 s at q
   unfolding lineSays piecesSay
   says-is = rw (pieces-are, piecesSay)
 
-  pub word-small : word < 56
+  pub word-small : word < 64
   word-small = word-less found word word-is
 
   pub read-unknown : word ≡ 0 → (r : Seen) → r .word ≡ 0 → SaysAs s r (lineSays (drop at s))

@@ -30,9 +30,9 @@ pub count-rule : (v : Word) → length (row v .fields) ≡ getD shapes (wordNo v
 unfolding shapes numbered fieldNo fieldNos wordNo row
 count-rule v = every (λ (v : Word). length (row v .fields)) (λ (v : Word). getD shapes (wordNo v) 0 % 32) refl v
 
-pub word-range : (v : Word) → (1 ≤ wordNo v) × (wordNo v < 56)
+pub word-range : (v : Word) → (1 ≤ wordNo v) × (wordNo v < 64)
 unfolding wordNo
-word-range v = (leb-true 1 (wordNo v) (holds (λ (v : Word). leb 1 (wordNo v)) refl v), ltb-true (wordNo v) 56 (holds (λ (v : Word). ltb (wordNo v) 56) refl v))
+word-range v = (leb-true 1 (wordNo v) (holds (λ (v : Word). leb 1 (wordNo v)) refl v), ltb-true (wordNo v) 64 (holds (λ (v : Word). ltb (wordNo v) 64) refl v))
 
 -- the numbers that are kept fit where they go
 pub flag-rule : (v : Word) → most (row v .fields) (getD slots (wordNo v) 0 % 8) ≤ 3

@@ -1,4 +1,4 @@
--- `rule_of`: an arm's number is the rule of its word; behind the arms no word has one. Assumes nothing.
+-- `rule_of`: an arm's number is the rule of its word; behind the arms no word has one. Made by tools/line_table.py. Assumes nothing.
 use mathlib.Core.Path.{refl}
 use Rattle.semantics.specs.Sheet.{row}
 use Rattle.line.specs.Rows.{numbered}

@@ -1,4 +1,4 @@
--- `letter_of`: an arm's letter is that of its word's constant; behind the arms there is none. Assumes nothing.
+-- `letter_of`: an arm's letter is that of its word's constant; behind the arms there is none. Made by tools/line_table.py. Assumes nothing.
 use mathlib.Core.Path.{refl}
 use Rattle.semantics.specs.Ty.{letter, line, lineTo, fieldsTo}
 use Rattle.semantics.specs.Sheet.{row}
@@ -37,4 +37,5 @@ letter-of-spec =
     (λ c. arm-letter _ _ _ refl (c .match .keys23))
     (λ c. arm-letter _ _ _ refl (c .match .keys24))
     (λ c. arm-letter _ _ _ refl (c .match .keys25))
+    (λ c. arm-letter _ _ _ refl (c .match .keys26))
     (λ c. rest-letter 80 _ (c .match .rest)))
