@@ -44,20 +44,24 @@ abbrev pub Within : Want → ℕ → Type 0
 Within first k = Unit {0}
 Within clauses k = Unit {0}
 Within (bindings v) k = Unit {0}
-Within (at q e) k = k ≤ 25 - e
+Within (at q e) k = k ≤ e
 
--- an expression stands no deeper than the limit
-pub depth-fits : (q : Place) (e : ℕ) (h : Head) → rank q ≡ 13 → beyond (at q e) h ≡ ok h → e ≤ 24
+some-left : (e : ℕ) → (e ≡ 0 → ⊥) → 1 ≤ e
+some-left zero n = absurd (n refl)
+some-left (suc e) n = omega arith
+
+-- where an expression stands a level is left
+pub depth-fits : (q : Place) (e : ℕ) (h : Head) → rank q ≡ 13 → beyond (at q e) h ≡ ok h → 1 ≤ e
 unfolding beyond
-depth-fits q e h r g = go (eqb (rank q) 13) refl (ltb depthLimit e) refl g
+depth-fits q e h r g = go (eqb (rank q) 13) refl (eqb e 0) refl g
   where
-    go : (b : Bool) → eqb (rank q) 13 ≡ b → (c : Bool) → ltb depthLimit e ≡ c → elim (b && c) [ true ↦ bad 5 | false ↦ ok h ] ≡ ok h → e ≤ 24
+    go : (b : Bool) → eqb (rank q) 13 ≡ b → (c : Bool) → eqb e 0 ≡ c → elim (b && c) [ true ↦ bad 5 | false ↦ ok h ] ≡ ok h → 1 ≤ e
     go true d true f k = absurd (let z : _≡_ {A = ℕ} 0 1 = cc in omega arith)
-    go true d false f k = omega (arith, ltb-false depthLimit e f)
+    go true d false f k = some-left e (eqb-false e 0 f)
     go false d c f k = absurd (eqb-false (rank q) 13 d r)
 
 -- a line where what hangs under it stands at most as high as its own wants allow
-own-height : (q : Place) (e : ℕ) (h : Head) (k : ℕ) → fits (at q e) (rank (place h)) ≡ true → beyond (at q e) h ≡ ok h → k ≤ 25 - deeper (at q e) → rise (rule h) k ≤ 25 - e
+own-height : (q : Place) (e : ℕ) (h : Head) (k : ℕ) → fits (at q e) (rank (place h)) ≡ true → beyond (at q e) h ≡ ok h → k ≤ deeper (at q e) → rise (rule h) k ≤ e
 unfolding fits
 own-height q e h k f g l = go (eqb (rank q) 13) refl l
   where
@@ -67,7 +71,7 @@ own-height q e h k f g l = go (eqb (rank q) 13) refl l
     by : rise (rule h) k ≤ k + cond (eqb (rank q) 13) 1 0
     by = rw same at (rise-place (h .word) k)
 
-    go : (b : Bool) → eqb (rank q) 13 ≡ b → k ≤ 25 - cond b (suc e) e → rise (rule h) k ≤ 25 - e
+    go : (b : Bool) → eqb (rank q) 13 ≡ b → k ≤ cond b (e - 1) e → rise (rule h) k ≤ e
     go true d l = let r : rise (rule h) k ≤ k + 1 = rw d at by in omega (arith, depth-fits q e h (eqb-true (rank q) 13 d) g)
     go false d l = let r : rise (rule h) k ≤ k + 0 = rw d at by in omega arith
 
@@ -83,13 +87,13 @@ split-right [] b n e ks ps = let z : n ≡ length b = omega arith in rw z at ps
 split-right (w ∷ a) b zero e ks ps = absurd (omega arith)
 split-right (w ∷ a) b (suc n) e (k ∷ ks) (pairing p ps) = split-right a b n (omega arith) ks ps
 
-role-within : (d : ℕ) (p : Role) (k : ℕ) → Within (wanted d p) k → k ≤ 25 - d
+role-within : (d : ℕ) (p : Role) (k : ℕ) → Within (wanted d p) k → k ≤ d
 role-within d plain k i = i
 role-within d condition k i = i
 role-within d answer k i = i
 role-within d (inner q) k i = i
 
-roles-within : (d : ℕ) (ps : List Role) {ks : List ℕ} → Pairs Within (map (wanted d) ps) ks → greatest ks ≤ 25 - d
+roles-within : (d : ℕ) (ps : List Role) {ks : List ℕ} → Pairs Within (map (wanted d) ps) ks → greatest ks ≤ d
 unfolding greatest
 roles-within d [] no-pairs = omega arith
 roles-within d (p ∷ ps) (pairing {y = k} i is) = omega (arith, role-within d p k i, roles-within d ps is)
@@ -98,7 +102,7 @@ roles-within d (p ∷ ps) (pairing {y = k} i is) = omega (arith, role-within d p
 
 -- what hangs under a line, from all that stands behind it
 under-height : (w : Want) (ws : List Want) (h : Head) (ks : List ℕ) → Inner w → fits w (rank (place h)) ≡ true → Pairs Within (under w h ++ ws) (take (length (under w h ++ ws)) ks)
-    → greatest (take (arity h) ks) ≤ 25 - deeper w
+    → greatest (take (arity h) ks) ≤ deeper w
 under-height w ws h ks i f ps =
     let a = split-left (under w h) ws (length (under w h ++ ws)) (length-append (under w h) ws) ks ps in
     let b : Pairs Within (under w h) (take (arity h) ks) = rw (under-many w h i f) at a in
@@ -110,7 +114,7 @@ beside-height w ws h ks i f ps =
     let a = split-right (under w h) ws (length (under w h ++ ws)) (length-append (under w h) ws) ks ps in
     rw (under-many w h i f) at a
 
-line-within : (w : Want) (h : Head) (k : ℕ) → Inner w → fits w (rank (place h)) ≡ true → beyond w h ≡ ok h → k ≤ 25 - deeper w → Within w (rise (rule h) k)
+line-within : (w : Want) (h : Head) (k : ℕ) → Inner w → fits w (rank (place h)) ≡ true → beyond w h ≡ ok h → k ≤ deeper w → Within w (rise (rule h) k)
 line-within (at q e) h k i f g l = own-height q e h k f g l
 
 -- each tree stands at most as high as its want allows
@@ -122,36 +126,36 @@ met-height (one-in i is) (meets {w = w} {ws = ws} {h = h} {hs = hs} f g m) =
     pairing (line-within w h (greatest (take (arity h) (height hs))) i f g (under-height w ws h (height hs) i f r)) (beside-height w ws h (height hs) i f r)
 
 -- one tree
-pub tree-height : (q : Place) (e : ℕ) (h : Head) (hs ks : List Head) → 3 < rank q → Met (at q e ∷ []) (h ∷ hs) ks → getD (height (h ∷ hs)) 0 0 ≤ 25 - e
+pub tree-height : (q : Place) (e : ℕ) (h : Head) (hs ks : List Head) → 3 < rank q → Met (at q e ∷ []) (h ∷ hs) ks → getD (height (h ∷ hs)) 0 0 ≤ e
 unfolding height
 tree-height q e h hs ks i m = go (met-height (one-in i none-in) m)
   where
-    go : {k : ℕ} → Pairs Within (at q e ∷ []) (k ∷ []) → k ≤ 25 - e
+    go : {k : ℕ} → Pairs Within (at q e ∷ []) (k ∷ []) → k ≤ e
     go (pairing p ps) = p
 
 -- what hangs under it
-pub kids-height : (w : Want) (h : Head) (hs ks : List Head) → Inner w → Met (w ∷ []) (h ∷ hs) ks → greatest (take (arity h) (height hs)) ≤ 25 - deeper w
+pub kids-height : (w : Want) (h : Head) (hs ks : List Head) → Inner w → Met (w ∷ []) (h ∷ hs) ks → greatest (take (arity h) (height hs)) ≤ deeper w
 kids-height w h hs ks i (meets f g m) = under-height w [] h (height hs) i f (met-height (all-in (inner-under w h i f .1) none-in) m)
 
 -- ## The types
 
 pub tree-low : (env : Env) (n : ℕ) (q : Place) (e : ℕ) (h : Head) (hs ks : List Head) → 3 < rank q → Met (at q e ∷ []) (h ∷ hs) ks
-    → levels (step env n h (take (arity h) (walk env (suc n) hs)) .ty) ≤ 25 - e
+    → levels (step env n h (take (arity h) (walk env (suc n) hs)) .ty) ≤ e
 unfolding height
 tree-low env n q e h hs ks i m = omega (arith, tree-height q e h hs ks i m, step-levels env n h (pairs-take (arity h) (walk-levels env (suc n) hs)))
 
 -- of the children of any line
 pub kids-low : (env : Env) (n : ℕ) (w : Want) (h : Head) (hs ks : List Head) → Inner w → Met (w ∷ []) (h ∷ hs) ks
-    → All (λ r. levels (r .ty) ≤ 25 - deeper w) (take (arity h) (walk env (suc n) hs))
-kids-low env n w h hs ks i m = greatest-low (25 - deeper w) (pairs-take (arity h) (walk-levels env (suc n) hs)) (kids-height w h hs ks i m)
+    → All (λ r. levels (r .ty) ≤ deeper w) (take (arity h) (walk env (suc n) hs))
+kids-low env n w h hs ks i m = greatest-low (deeper w) (pairs-take (arity h) (walk-levels env (suc n) hs)) (kids-height w h hs ks i m)
 
 -- of those of an expression
 pub children-low : (env : Env) (n e : ℕ) (h : Head) (hs ks : List Head) → Met (at AtExpression e ∷ []) (h ∷ hs) ks
-    → All (λ r. levels (r .ty) ≤ 24 - e) (take (arity h) (walk env (suc n) hs))
+    → All (λ r. levels (r .ty) ≤ e - 1) (take (arity h) (walk env (suc n) hs))
 unfolding rank
 children-low env n e h hs ks m =
     let i : Inner (at AtExpression e) = omega arith in
-    greatest-low (24 - e) (pairs-take (arity h) (walk-levels env (suc n) hs)) (omega (arith, kids-height (at AtExpression e) h hs ks i m))
+    greatest-low (e - 1) (pairs-take (arity h) (walk-levels env (suc n) hs)) (omega (arith, kids-height (at AtExpression e) h hs ks i m))
 
 greatest-all : (m : ℕ) (ks : List ℕ) → greatest ks ≤ m → All (λ k. k ≤ m) ks
 unfolding greatest
@@ -159,8 +163,8 @@ greatest-all m [] l = empty
 greatest-all m (k ∷ ks) l = also {x = k} (omega arith) (greatest-all m ks (omega arith))
 
 -- the heights of an expression's children
-pub children-height : (e : ℕ) (h : Head) (hs ks : List Head) → Met (at AtExpression e ∷ []) (h ∷ hs) ks → All (λ k. k ≤ 24 - e) (take (arity h) (height hs))
+pub children-height : (e : ℕ) (h : Head) (hs ks : List Head) → Met (at AtExpression e ∷ []) (h ∷ hs) ks → All (λ k. k ≤ e - 1) (take (arity h) (height hs))
 unfolding rank
 children-height e h hs ks m =
     let i : Inner (at AtExpression e) = omega arith in
-    greatest-all (24 - e) (take (arity h) (height hs)) (omega (arith, kids-height (at AtExpression e) h hs ks i m))
+    greatest-all (e - 1) (take (arity h) (height hs)) (omega (arith, kids-height (at AtExpression e) h hs ks i m))

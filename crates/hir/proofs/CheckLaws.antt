@@ -108,11 +108,11 @@ pub record KidGo (s : Bytes) (p : ℕ) (k : Seen) (c depth d n : ℕ) (ws : List
   pub is : HeadIs s k head
   pub class : classOf k ≡ c
   pub deep : c ≡ 13 → 0 < depth
-  pub same : run (at (placeAt c) d ∷ ws) n ls ≡ before head (run (kidWants (k .word) (k .count) (k .flag) (pickC (eqb c 13) (suc d) d) ++ ws) (suc n) (split 10 (drop (k .next) s)))
+  pub same : run (at (placeAt c) d ∷ ws) n ls ≡ before head (run (kidWants (k .word) (k .count) (k .flag) (pickC (eqb c 13) (d - 1) d) ++ ws) (suc n) (split 10 (drop (k .next) s)))
   pub on : p < k .next
   pub inside : k .next ≤ length s
 
-module _ (s : Bytes) (p : ℕ) (k : Seen) (c depth d : ℕ) (n : ℕ) (ws : List Want) (ls : List Bytes) (small : c ≤ 13) (whole : d + depth ≡ 25) (r : ReadAs s p k ls) where
+module _ (s : Bytes) (p : ℕ) (k : Seen) (c depth d : ℕ) (n : ℕ) (ws : List Want) (ls : List Bytes) (small : c ≤ 13) (whole : d ≡ depth) (r : ReadAs s p k ls) where
   abbrev w : Want
   w = at (placeAt c) d
 
@@ -120,26 +120,26 @@ module _ (s : Bytes) (p : ℕ) (k : Seen) (c depth d : ℕ) (n : ℕ) (ws : List
   unfolding fits
   fits-is b e = rw (rank-place c small) e
 
-  under-kid : (h : Head) → HeadIs s k h → rank (place h) ≡ c → 3 < c → under w h ≡ kidWants (k .word) (k .count) (k .flag) (pickC (eqb c 13) (suc d) d)
+  under-kid : (h : Head) → HeadIs s k h → rank (place h) ≡ c → 3 < c → under w h ≡ kidWants (k .word) (k .count) (k .flag) (pickC (eqb c 13) (d - 1) d)
   unfolding under
   under-kid h i e up =
       rw (after-none h (omega arith), append-nil (map (wanted (deeper w)) (roles h)), kids-of s k h (deeper w) i, rank-place c small)
       (ap (kidWants (k .word) (k .count) (k .flag)) (same (eqb c 13)))
     where
-      same : (b : Bool) → cond b (suc d) d ≡ pickC b (suc d) d
+      same : (b : Bool) → cond b (d - 1) d ≡ pickC b (d - 1) d
       same true = refl
       same false = refl
 
   beyond-deep : (h : Head) → c ≡ 13 → depth ≡ 0 → beyond w h ≡ bad 5
   unfolding beyond
-  beyond-deep h e z = rw (rank-place c small, e, lt-ltb depthLimit d (omega arith), beyond)
+  beyond-deep h e z = rw (rank-place c small, e, eq-eqb d 0 (whole ∙ z), beyond)
 
   beyond-fine : (h : Head) → (c ≡ 13 → 0 < depth) → beyond w h ≡ ok h
   unfolding beyond
   beyond-fine h l = rw (rank-place c small, beyond) (go (eqb c 13) refl)
     where
-      go : (b : Bool) → eqb c 13 ≡ b → elim (b && ltb depthLimit d) [ true ↦ bad 5 | false ↦ ok h ] ≡ ok h
-      go true e = rw (le-ltb depthLimit d (omega (arith, l (eqb-true c 13 e))))
+      go : (b : Bool) → eqb c 13 ≡ b → elim (b && eqb d 0) [ true ↦ bad 5 | false ↦ ok h ] ≡ ok h
+      go true e = rw (ne-eqb d 0 (λ z. omega (arith, l (eqb-true c 13 e))))
       go false e = refl
 
   verdict-is : (y : ℕ) → y ≡ verdictOf (classOf k) c (k .why) depth → (b t u v : Bool) → eqb (classOf k) c ≡ b → eqb (k .why) 0 ≡ t → eqb c 13 ≡ u → eqb depth 0 ≡ v
@@ -215,7 +215,7 @@ kids-start s h line depth d k q a =
       above = q .above;
     }
 
-module _ (s : Bytes) (ks : Kids) (d depth n p₀ l₀ p l j : ℕ) (i : KidsInv s ks d n p₀ l₀ p l j) (more : j < n) (whole : d + depth ≡ 25)
+module _ (s : Bytes) (ks : Kids) (d depth n p₀ l₀ p l j : ℕ) (i : KidsInv s ks d n p₀ l₀ p l j) (more : j < n) (whole : d ≡ depth)
     (c : ℕ) (ec : c ≡ pickC (ltb j (ks .first)) (ks .class1) (ks .class2)) (k : Seen) (r : ReadAs s p k (split 10 (drop p s))) (small : c ≤ 13) where
   abbrev R : Run
   R = run (wantsOf ks d) l₀ (split 10 (drop p₀ s))
@@ -233,7 +233,7 @@ module _ (s : Bytes) (ks : Kids) (d depth n p₀ l₀ p l j : ℕ) (i : KidsInv 
 
   module _ (g : KidGo s p k c depth d l later (split 10 (drop p s))) where
     abbrev inner : Run
-    inner = run (kidWants (k .word) (k .count) (k .flag) (pickC (eqb c 13) (suc d) d)) (suc l) (split 10 (drop (k .next) s))
+    inner = run (kidWants (k .word) (k .count) (k .flag) (pickC (eqb c 13) (d - 1) d)) (suc l) (split 10 (drop (k .next) s))
 
     into-kid : R ≡ behind (i .heads) (before (g .head) (andGo inner (λ m ms. run later m ms)))
     into-kid = turn ∙ ap (behind (i .heads)) (g .same ∙ ap (before (g .head)) (run-append (split 10 (drop (k .next) s)) _ later (suc l)))
@@ -300,30 +300,30 @@ level-small c = go (eqb c 13) (eqb c 7)
     go false false = omega arith
 
 module _ (s : Bytes) (h : Seen) (line depth : ℕ) (ask : KidsAsk s h line depth) (ks : Kids) (a : KidsAs h ks) (n p l j : ℕ)
-    (inv : KidsInv s ks (25 - depth) n (h .next) line p l j) where
+    (inv : KidsInv s ks depth n (h .next) line p l j) where
   abbrev whole-run : Run
-  whole-run = run (kidWants (h .word) (h .count) (h .flag) (25 - depth)) line (split 10 (drop (h .next) s))
+  whole-run = run (kidWants (h .word) (h .count) (h .flag) depth) line (split 10 (drop (h .next) s))
 
-  runs-as : whole-run ≡ run (wantsOf ks (25 - depth)) line (split 10 (drop (h .next) s))
-  runs-as = ap (λ (x : List Want). run x line (split 10 (drop (h .next) s))) (wants-as h ks (25 - depth) a)
+  runs-as : whole-run ≡ run (wantsOf ks depth) line (split 10 (drop (h .next) s))
+  runs-as = ap (λ (x : List Want). run x line (split 10 (drop (h .next) s))) (wants-as h ks depth a)
 
   pub step-end : n ≤ j → FineAs s (h .next) p l whole-run
-  step-end over = rw runs-as (kids-end s ks (25 - depth) n (h .next) line p l j inv over)
+  step-end over = rw runs-as (kids-end s ks depth n (h .next) line p l j inv over)
 
   module _ (more : j < n) (c : ℕ) (ec : c ≡ pickC (ltb j (ks .first)) (ks .class1) (ks .class2)) (k : Seen) (r : ReadAs s p k (split 10 (drop p s)))
       (y : ℕ) (ey : y ≡ verdictOf (classOf k) c (k .why) depth) where
     un : Under (classOf h) c
     un = rw ec (kid-under s h (ask .head) (ask .is) ks a j (omega (arith, inv .all)))
 
-    whole : (25 - depth) + depth ≡ 25
-    whole = omega (arith, ask .deep)
+    whole : depth ≡ depth
+    whole = refl
 
     pub step-stop : (y ≡ 0 → ⊥) → whole-run ≡ stopped y l
-    step-stop ne = runs-as ∙ kids-stop s ks (25 - depth) depth n (h .next) line p l j inv more whole c ec k r (un .small) y ey ne
+    step-stop ne = runs-as ∙ kids-stop s ks depth depth n (h .next) line p l j inv more whole c ec k r (un .small) y ey ne
 
     module _ (z : y ≡ 0) where
-      go : KidGo s p k c depth (25 - depth) l (drop (j + 1) (wantsOf ks (25 - depth))) (split 10 (drop p s))
-      go = kid-go s p k c depth (25 - depth) l (drop (j + 1) (wantsOf ks (25 - depth))) (split 10 (drop p s)) (un .small) whole r y ey z (un .above)
+      go : KidGo s p k c depth depth l (drop (j + 1) (wantsOf ks depth)) (split 10 (drop p s))
+      go = kid-go s p k c depth depth l (drop (j + 1) (wantsOf ks depth)) (split 10 (drop p s)) (un .small) whole r y ey z (un .above)
 
       pub step-room : l < 4294967295
       step-room = omega (arith, ask .room, inv .above, inv .inside)
@@ -339,36 +339,25 @@ module _ (s : Bytes) (h : Seen) (line depth : ℕ) (ask : KidsAsk s h line depth
             by true e d = omega (arith, d, level-small (classOf k), go .deep (eqb-true c 13 e))
             by false e d = omega (arith, d, ap level (go .class), un .falls (eqb-false c 13 e))
 
-        dep-small : dep ≤ 24
-        dep-small = by (eqb c 13) ed
-          where
-            by : (t : Bool) → dep ≡ pickC t (depth - 1) depth → dep ≤ 24
-            by true d = omega (arith, d, ask .deep)
-            by false d = omega (arith, d, ask .deep)
-
         pub step-ask : KidsAsk s k m dep
-        step-ask = record { room = ask .room; head = go .head; is = go .is; inside = go .inside; above = omega (arith, em, inv .above, go .on); deep = dep-small }
+        step-ask = record { room = ask .room; head = go .head; is = go .is; inside = go .inside; above = omega (arith, em, inv .above, go .on) }
 
-        depth-is : 25 - dep ≡ pickC (eqb c 13) (suc (25 - depth)) (25 - depth)
-        depth-is = by (eqb c 13) refl ed
-          where
-            by : (t : Bool) → eqb c 13 ≡ t → dep ≡ pickC t (depth - 1) depth → 25 - dep ≡ pickC t (suc (25 - depth)) (25 - depth)
-            by true e d = omega (arith, d, ask .deep, go .deep (eqb-true c 13 e))
-            by false e d = omega (arith, d)
+        depth-is : dep ≡ pickC (eqb c 13) (depth - 1) depth
+        depth-is = ed
 
         abbrev kid-run : Run
-        kid-run = run (kidWants (k .word) (k .count) (k .flag) (25 - dep)) m (split 10 (drop (k .next) s))
+        kid-run = run (kidWants (k .word) (k .count) (k .flag) dep) m (split 10 (drop (k .next) s))
 
-        kid-as : kid-run ≡ run (kidWants (k .word) (k .count) (k .flag) (pickC (eqb c 13) (suc (25 - depth)) (25 - depth))) (suc l) (split 10 (drop (k .next) s))
+        kid-as : kid-run ≡ run (kidWants (k .word) (k .count) (k .flag) (pickC (eqb c 13) (depth - 1) depth)) (suc l) (split 10 (drop (k .next) s))
         kid-as = rw (depth-is, em ∙ add-one l)
 
         pub step-refused : (x : Check) → ChecksAs s (k .next) x kid-run → (why : ℕ) (o : HirId) → x ≡ Refused why o → whole-run ≡ stopped why (o .0)
         step-refused x f why o e =
             let g : kid-run ≡ stopped why (o .0) = rw e at f in
-            runs-as ∙ kids-refused s ks (25 - depth) depth n (h .next) line p l j inv more whole c ec k r (un .small) go why (o .0) (sym kid-as ∙ g)
+            runs-as ∙ kids-refused s ks depth depth n (h .next) line p l j inv more whole c ec k r (un .small) go why (o .0) (sym kid-as ∙ g)
 
         pub step-on : (x : Check) → ChecksAs s (k .next) x kid-run → (next : ℕ) (o : HirId) → x ≡ Fine next o
-            → KidsInv s ks (25 - depth) n (h .next) line next (o .0) (j + 1)
+            → KidsInv s ks depth n (h .next) line next (o .0) (j + 1)
         step-on x f next o e =
             let g : FineAs s (k .next) next (o .0) kid-run = rw e at f in
-            kids-on s ks (25 - depth) depth n (h .next) line p l j inv more whole c ec k r (un .small) go next (o .0) (rw kid-as at g)
+            kids-on s ks depth depth n (h .next) line p l j inv more whole c ec k r (un .small) go next (o .0) (rw kid-as at g)

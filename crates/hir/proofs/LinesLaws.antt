@@ -96,7 +96,7 @@ beyond-same (bindings v) i h e = go (eqb (rank (place i)) 1 && ltb (variableOf i
     go : (b : Bool) → elim b [ true ↦ bad 3 | false ↦ ok i ] ≡ ok h → i ≡ h
     go true d = absurd (no-ok 3 h d)
     go false d = cc
-beyond-same (at q k) i h e = go (eqb (rank q) 13 && ltb depthLimit k) e
+beyond-same (at q k) i h e = go (eqb (rank q) 13 && eqb k 0) e
   where
     go : (b : Bool) → elim b [ true ↦ bad 5 | false ↦ ok i ] ≡ ok h → i ≡ h
     go true d = absurd (no-ok 5 h d)

@@ -344,7 +344,7 @@ module _ (s : Bytes) (p₀ l₀ p l : ℕ) (i : ClausesInv s p₀ l₀ p l) (k :
       fit = line-fit s p k clauses [] l ls r (fits-clause (classOf k) ne true (eq-eqb (classOf k) 2 class-two)) why-zero
 
       abbrev kid-run : ℕ → Run
-      kid-run m = run (kidWants (k .word) (k .count) (k .flag) (25 - depth)) m (split 10 (drop (k .next) s))
+      kid-run m = run (kidWants (k .word) (k .count) (k .flag) depth) m (split 10 (drop (k .next) s))
 
       -- its own lines, and then the clauses that follow
       into-clause : run (clauses ∷ []) l ls ≡ before (fit .head) (andGo (kid-run (suc l)) (λ m ms. run (clauses ∷ []) m ms))
@@ -352,13 +352,13 @@ module _ (s : Bytes) (p₀ l₀ p l : ℕ) (i : ClausesInv s p₀ l₀ p l) (k :
       into-clause =
           let h = fit .head in
           let q : rank (place h) ≡ 2 = sym (class-is s k h (fit .is)) ∙ class-two in
-          let one : 25 - depth ≡ 1 = omega (arith, ed) in
-          let u : under clauses h ++ [] ≡ kidWants (k .word) (k .count) (k .flag) (25 - depth) ++ (clauses ∷ [])
-          = append-nil (under clauses h) ∙ rw (after-clause h q, kids-of s k h 1 (fit .is), one) in
-          fit .same ∙ carry-ok l h _ ∙ ap (before h) (ap (λ (w : List Want). run w (suc l) (split 10 (drop (k .next) s))) u ∙ run-append (split 10 (drop (k .next) s)) (kidWants (k .word) (k .count) (k .flag) (25 - depth)) (clauses ∷ []) (suc l))
+          let one : depth ≡ 24 = ed in
+          let u : under clauses h ++ [] ≡ kidWants (k .word) (k .count) (k .flag) depth ++ (clauses ∷ [])
+          = append-nil (under clauses h) ∙ rw (after-clause h q, kids-of s k h 24 (fit .is), one) in
+          fit .same ∙ carry-ok l h _ ∙ ap (before h) (ap (λ (w : List Want). run w (suc l) (split 10 (drop (k .next) s))) u ∙ run-append (split 10 (drop (k .next) s)) (kidWants (k .word) (k .count) (k .flag) depth) (clauses ∷ []) (suc l))
 
       pub clause-ask : (m : ℕ) → m ≡ l + 1 → KidsAsk s k m depth
-      clause-ask m em = record { room = i .room; head = fit .head; is = fit .is; inside = fit .inside; above = omega (arith, em, i .above, fit .on); deep = omega (arith, ed) }
+      clause-ask m em = record { room = i .room; head = fit .head; is = fit .is; inside = fit .inside; above = omega (arith, em, i .above, fit .on) }
 
       module _ (m : ℕ) (em : m ≡ l + 1) where
         run-m : kid-run m ≡ kid-run (suc l)

@@ -42,7 +42,6 @@ pub record KidsAsk (s : Bytes) (h : Seen) (line depth : ℕ) : Type 0 where
   pub is : HeadIs s h head
   pub inside : h .next ≤ length s
   pub above : line ≤ h .next + 1
-  pub deep : depth ≤ 24
 
 -- the wants were met from `from` on, and the line `line` starts at `next`
 pub record FineAs (s : Bytes) (from next line : ℕ) (r : Run) : Type 0 where

@@ -103,7 +103,7 @@ fn below(class: usize, depth: usize) -> usize
 // The lines below this one, and all below those, from its next line on.
 pub fn check_kids(sheet: &[u8], h: Head, line: HirId, depth: usize) -> Check
     requires { ⌜ KidsAsk (now sheet) h (line .0) depth ⌝ }
-    ensures { λ r. ⌜ ChecksAs (now (sheet .entry)) (h .next) r (run (kidWants (h .word) (h .count) (h .flag) (25 - depth)) (line .0) (split 10 (drop (h .next) (now (sheet .entry))))) ⌝ }
+    ensures { λ r. ⌜ ChecksAs (now (sheet .entry)) (h .next) r (run (kidWants (h .word) (h .count) (h .flag) depth) (line .0) (split 10 (drop (h .next) (now (sheet .entry))))) ⌝ }
 {
     let kids = kids_of(h);
     let n = kids.all;

@@ -253,7 +253,6 @@ module _ {s : Bytes} {env : Env} {n : ℕ} {rest : List Head} {out₀ out : Byte
               };
           is = seen .0;
           next = seen .1;
-          deep = omega arith;
         }
 
     pub mid-ask : (b : Binds) (work : Bytes) → EnvAs s b env → 65536 ≤ length work → ExprAsk s b k c 24 work y
@@ -270,7 +269,7 @@ module _ {s : Bytes} {env : Env} {n : ℕ} {rest : List Head} {out₀ out : Byte
     bound-faults : let r = resultOf env (c .line .0) (here .head) (here .tail) in
         (length (faultsText (r .faults)) + 512 + 1024 * length (tree .left) ≤ 1024 * suc (length (here .tail))) × (length (r .faults) + 4 + 8 * length (tree .left) ≤ 8 * suc (length (here .tail)))
     unfolding rank
-    bound-faults = tree-faults env (c .line .0) (here .head) (here .tail) (tree .left) (at AtExpression 1) (omega arith) (tree .met)
+    bound-faults = tree-faults env (c .line .0) (here .head) (here .tail) (tree .left) (at AtExpression 24) (omega arith) (tree .met)
 
     module _ {b : Binds} (v : EnvAs s b env) {work work′ out′ : Bytes} {w : Walk} (g : ExprWalked s b k c 24 work work′ out out′ y w) where
       abbrev res : Res

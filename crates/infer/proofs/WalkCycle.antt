@@ -170,7 +170,7 @@ module _ {s : Bytes} {b : Binds} {h : Seen} {cur : Cur} {depth : ℕ} {workE : B
 -- ## `check_tree`
 
 pub record TreeInv (s : Bytes) (b : Binds) (depth : ℕ) (work₀ out₀ : Bytes) (c₀ : Cur) (y₀ : Tally) (work out : Bytes) (c : Cur) (y : Tally) (todo : ℕ) : Type 0 where
-  pub all : (p : Place) (t : TreeAt (at p (25 - depth)) s c₀) → 3 < rank p → (env : Env) → EnvAs s b env → PatLoop s depth (c₀ .line .0) (t .head) (t .under) (t .rest) env out₀ y₀ out c y todo
+  pub all : (p : Place) (t : TreeAt (at p depth) s c₀) → 3 < rank p → (env : Env) → EnvAs s b env → PatLoop s depth (c₀ .line .0) (t .head) (t .under) (t .rest) env out₀ y₀ out c y todo
   pub long : length work ≡ length work₀
   pub as-long : length out ≡ length out₀
 
@@ -203,37 +203,37 @@ module _ {s : Bytes} {b : Binds} {k : Seen} {c₀ : Cur} {depth : ℕ} {work₀ 
       is-at L = sym (tree-class L) ∙ is
 
       pub tree-ask : ExprAsk s b g c depth work y
-      tree-ask = pat-ask tree-loop more g read (x .at .deep) (is-at tree-loop) (x .bound) (omega (arith, x .room, i .long)) (x .count)
+      tree-ask = pat-ask tree-loop more g read (is-at tree-loop) (x .bound) (omega (arith, x .room, i .long)) (x .count)
 
       module _ {work′ out′ : Bytes} {a : Walk} (W : ExprWalked s b g c depth work work′ out out′ y a) where
         pub tree-long : length work′ ≡ length work₀
-        tree-long = pat-long tree-loop more g read (x .at .deep) (is-at tree-loop) (x .bound) W ∙ i .long
+        tree-long = pat-long tree-loop more g read (is-at tree-loop) (x .bound) W ∙ i .long
 
         pub tree-out : length out′ ≡ length out₀
-        tree-out = pat-out tree-loop more g read (x .at .deep) (is-at tree-loop) (x .bound) W
+        tree-out = pat-out tree-loop more g read (is-at tree-loop) (x .bound) W
 
         pub tree-stop : (m : HirId) → a ≡ TooLarge m → AnyWalked s b k c₀ depth work₀ work′ out₀ out′ y₀ (TooLarge m)
         tree-stop m e ζ env u =
             let L = i .all (ζ .place) (ζ .tree) (ζ .inside) env u in
-            stopped-walked m (pat-large L more g read (x .at .deep) (is-at L) u W m e) tree-long tree-out
+            stopped-walked m (pat-large L more g read (is-at L) u W m e) tree-long tree-out
 
         module _ {len : ℕ} {c′ : Cur} {z : Tally} (e : a ≡ Done len c′ z) where
           pub tree-down : suc (c .line .0) ≤ c′ .line .0
-          tree-down = pat-down tree-loop more g read (x .at .deep) (is-at tree-loop) (x .bound) W e
+          tree-down = pat-down tree-loop more g read (is-at tree-loop) (x .bound) W e
 
           pub tree-on : TreeInv s b depth work₀ out₀ c₀ y₀ work′ out′ c′ z (todo - 1)
-          tree-on = record { all = λ p t q env u. let L = i .all p t q env u in pat-on L more g read (x .at .deep) (is-at L) u W e; long = tree-long; as-long = tree-out }
+          tree-on = record { all = λ p t q env u. let L = i .all p t q env u in pat-on L more g read (is-at L) u W e; long = tree-long; as-long = tree-out }
 
     pub tree-kids : (g .word < 64) × (g .count ≤ 9999) × (g .flag ≤ 3)
     tree-kids = asks-kids s g (pat-first tree-loop more .head) (pat-read tree-loop more g read .0)
 
     module _ (isn't : classOf g ≡ 13 → ⊥) {kk : Kids} (hung : KidsAs g kk) where
       pub tree-past : c .line .0 < 4294967295
-      tree-past = pass-room tree-loop more g read (x .at .deep) (λ e. isn't (tree-class tree-loop ∙ e)) hung
+      tree-past = pass-room tree-loop more g read (λ e. isn't (tree-class tree-loop ∙ e)) hung
 
       pub tree-pass : (c′ : Cur) → Past c′ (g .next) (c .line .0) → TreeInv s b depth work₀ out₀ c₀ y₀ work out c′ y (todo - 1 + kk .all)
       tree-pass c′ f =
-          record { all = λ p t q env u. let L = i .all p t q env u in pass L more g read (x .at .deep) (λ e. isn't (tree-class L ∙ e)) hung c′ f; long = i .long; as-long = i .as-long }
+          record { all = λ p t q env u. let L = i .all p t q env u in pass L more g read (λ e. isn't (tree-class L ∙ e)) hung c′ f; long = i .long; as-long = i .as-long }
 
   pub tree-end : todo ≤ 0 → {e : Seen} {d : Cur} → EntersAs s k c₀ e d → (classOf e ≡ 13 → ⊥) → AnyWalked s b k c₀ depth work₀ (set (set work 0 80) 1 44) out₀ out y₀ (Done 2 c y)
   tree-end over E n ζ env u =

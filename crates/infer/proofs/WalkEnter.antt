@@ -57,13 +57,12 @@ module _ {s : Bytes} {k : Seen} {c : Cur} {depth : ℕ} (a : AnyAt s k c depth) 
             next = a .tree .next;
             line = a .tree .line;
             lines = a .tree .lines;
-            met = subst (λ (x : Place). Met (at x (25 - depth) ∷ []) (a .tree .head ∷ a .tree .under) (a .tree .rest)) m (a .tree .met);
+            met = subst (λ (x : Place). Met (at x depth ∷ []) (a .tree .head ∷ a .tree .under) (a .tree .rest)) m (a .tree .met);
             above = a .tree .above;
             room = a .tree .room;
           };
           is = a .is;
           next = a .next;
-          deep = a .deep;
         };
         fewer = omega arith;
         gives = λ env work work′ out out′ y r w. w;
@@ -74,10 +73,10 @@ module _ {s : Bytes} {k : Seen} {c : Cur} {depth : ℕ} (a : AnyAt s k c depth) 
     entry-rank : rank (a .place) ≡ 11
     entry-rank = sym (met-rank (a .tree .met)) ∙ entry-place (a .tree .head) t
 
-    entry-first : First (at AtExpression (25 - depth)) [] (a .tree .under) (a .tree .rest)
+    entry-first : First (at AtExpression depth) [] (a .tree .under) (a .tree .rest)
     entry-first =
-        first-met (subst (λ (ps : List Role). Met (map (wanted (25 - depth)) ps) (a .tree .under) (a .tree .rest)) (entry-roles (a .tree .head) t)
-        (subst (λ (x : ℕ). Met (map (wanted x) (roles (a .tree .head))) (a .tree .under) (a .tree .rest)) (deeper-same (a .place) (25 - depth) (λ z. omega (arith, entry-rank)))
+        first-met (subst (λ (ps : List Role). Met (map (wanted depth) ps) (a .tree .under) (a .tree .rest)) (entry-roles (a .tree .head) t)
+        (subst (λ (x : ℕ). Met (map (wanted x) (roles (a .tree .head))) (a .tree .under) (a .tree .rest)) (deeper-same (a .place) depth (λ z. omega (arith, entry-rank)))
         (met-under (a .inside) (a .tree .met))))
 
     entry-line : FirstLine s (a .tree .next) (entry-first .head) (entry-first .under) (length s)
@@ -92,8 +91,8 @@ module _ {s : Bytes} {k : Seen} {c : Cur} {depth : ℕ} (a : AnyAt s k c depth) 
     entry-last : entry-first .behind ≡ a .tree .rest
     entry-last = no-wants (entry-first .rest)
 
-    entry-met : Met (at AtExpression (25 - depth) ∷ []) (entry-first .head ∷ entry-first .under) (a .tree .rest)
-    entry-met = subst (λ (x : List Head). Met (at AtExpression (25 - depth) ∷ []) (entry-first .head ∷ entry-first .under) x) entry-last (entry-first .met)
+    entry-met : Met (at AtExpression depth ∷ []) (entry-first .head ∷ entry-first .under) (a .tree .rest)
+    entry-met = subst (λ (x : List Head). Met (at AtExpression depth ∷ []) (entry-first .head ∷ entry-first .under) x) entry-last (entry-first .met)
 
     entry-gives : (env : Env) (work work′ out out′ : Bytes) (y : Tally) (r : Walk) → Walked env s (d .line .0) (entry-first .head) (entry-first .under) (a .tree .rest) work work′ out out′ y r
         → Walked env s (c .line .0) (a .tree .head) (a .tree .under) (a .tree .rest) work work′ out out′ y r
@@ -133,7 +132,6 @@ module _ {s : Bytes} {k : Seen} {c : Cur} {depth : ℕ} (a : AnyAt s k c depth) 
             };
             is = entry-is .0;
             next = entry-is .1;
-            deep = a .deep;
           };
           fewer = omega (arith, ap length (entry-first .same));
           gives = entry-gives;

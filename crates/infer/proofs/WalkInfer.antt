@@ -208,7 +208,7 @@ module _ {s : Bytes} {b : Binds} {h : Seen} {here depth : ℕ} {hd : Head} {hs k
       end-none = drop-of-length-le (roles hd) {i = j} (omega (arith, all-arity, over))
 
       end-heads : L .heads ≡ ks
-      end-heads = no-wants (subst (λ (ps : List Role). Met (map (wanted (25 - (depth - 1))) ps) (L .heads) ks) end-none (L .met))
+      end-heads = no-wants (subst (λ (ps : List Role). Met (map (wanted (depth - 1)) ps) (L .heads) ks) end-none (L .met))
 
       end-at : EndAt qq (L .kept) hd s h work st
       unfolding arity
@@ -247,7 +247,7 @@ module _ {s : Bytes} {b : Binds} {h : Seen} {here depth : ℕ} {hd : Head} {hs k
             lines = subst (λ (x : List Head). Lines s (c .at) x (length s)) end-heads (L .lines);
             count = n;
             above = L .above;
-            walked = tree-ends (expr-in (25 - depth)) (B .met) env here (c .line .0) n;
+            walked = tree-ends (expr-in depth) (B .met) env here (c .line .0) n;
           }
 
       pub end-walked : {workE work′ out′ : Bytes} {e : Ended} {r : Walk} (i : HirId) → i .0 ≡ here → EndedBy s b h work work′ st out out′ y e → ToldAs e i c r → length work ≡ length workE

@@ -36,10 +36,9 @@ use Rattle.infer.proofs.EndLaws.{variable-read}
 pub record Base (s : Bytes) (h : Seen) (here depth : ℕ) (hd : Head) (hs ks : List Head) : Type 0 where
   pub is : HeadIs s h hd
   pub lines : Lines s (h .next) hs (length s)
-  pub met : Met (at AtExpression (25 - depth) ∷ []) (hd ∷ hs) ks
+  pub met : Met (at AtExpression depth ∷ []) (hd ∷ hs) ks
   pub above : here ≤ h .next
   pub room : length s < 4294967294
-  pub deep : depth ≤ 24
   pub variable : hd .word ≡ VAR → hd .var ≡ some (variableOf hd)
 
 pub expr-base : {s : Bytes} {h : Seen} {c : Cur} {depth : ℕ} (a : ExprAt s h c depth) → Base s h (c .line .0) depth (a .tree .head) (a .tree .under) (a .tree .rest)
@@ -50,7 +49,6 @@ expr-base {s} a =
       met = a .tree .met;
       above = omega (arith, a .tree .above, a .tree .line .on, a .next);
       room = a .tree .room;
-      deep = a .deep;
       variable = variable-read (a .tree .line);
     }
 
@@ -58,7 +56,7 @@ pub expr-in : (e : ℕ) → Inner (at AtExpression e)
 unfolding rank
 expr-in e = omega arith
 
-expr-deeper : (e : ℕ) → deeper (at AtExpression e) ≡ suc e
+expr-deeper : (e : ℕ) → deeper (at AtExpression e) ≡ e - 1
 unfolding rank
 expr-deeper e = refl
 
@@ -71,22 +69,19 @@ module _ {s : Bytes} {h : Seen} {here depth : ℕ} {hd : Head} {hs ks : List Hea
   base-rank = met-rank (B .met) ∙ expr-rank
 
   pub base-pos : 1 ≤ depth
-  base-pos = omega (arith, depth-fits AtExpression (25 - depth) hd expr-rank (met-fits (B .met) .1), B .deep)
+  base-pos = depth-fits AtExpression depth hd expr-rank (met-fits (B .met) .1)
 
   pub base-typed : rule hd ≡ Rule.typed (typingOf (rule hd))
   base-typed = typed-at hd base-rank
 
   -- the wants under it
-  base-level : suc (25 - depth) ≡ 25 - (depth - 1)
-  base-level = omega (arith, base-pos, B .deep)
+  pub base-under : Met (map (wanted (depth - 1)) (roles hd)) hs ks
+  base-under = subst (λ (x : ℕ). Met (map (wanted x) (roles hd)) hs ks) (expr-deeper depth) (met-under (expr-in depth) (B .met))
 
-  pub base-under : Met (map (wanted (25 - (depth - 1))) (roles hd)) hs ks
-  base-under = subst (λ (x : ℕ). Met (map (wanted x) (roles hd)) hs ks) (expr-deeper (25 - depth) ∙ base-level) (met-under (expr-in (25 - depth)) (B .met))
-
-  pub base-in : AllIn (map (wanted (25 - (depth - 1))) (roles hd))
+  pub base-in : AllIn (map (wanted (depth - 1)) (roles hd))
   base-in =
-      let u = inner-under (at AtExpression (25 - depth)) hd (expr-in (25 - depth)) (met-fits (B .met) .0) in
-      subst AllIn (u .0 ∙ ap (λ (x : ℕ). map (wanted x) (roles hd)) (expr-deeper (25 - depth) ∙ base-level)) (u .1)
+      let u = inner-under (at AtExpression depth) hd (expr-in depth) (met-fits (B .met) .0) in
+      subst AllIn (u .0 ∙ ap (λ (x : ℕ). map (wanted x) (roles hd)) (expr-deeper depth)) (u .1)
 
   -- what the line comes to, as the code runs
   pub base-run : (env : Env) → judged (resultOf env here hd hs)
@@ -94,7 +89,7 @@ module _ {s : Bytes} {h : Seen} {here depth : ℕ} {hd : Head} {hs ks : List Hea
   unfolding runStep
   base-run env =
       step-run env here hd (typingOf (rule hd)) base-typed (take (arity hd) (walk env (suc here) hs)) (all-take (arity hd) (walk-fine env (suc here) hs))
-      (kids-many (expr-in (25 - depth)) (B .met) env (suc here))
+      (kids-many (expr-in depth) (B .met) env (suc here))
 
   -- stopped among its children
   pub base-stopped : (env : Env) (l : ℕ) → kids here (typingOf (rule hd)) (start (typingOf (rule hd))) (roles hd) (take (arity hd) (walk env (suc here) hs)) ≡ stopped l
@@ -118,8 +113,8 @@ pub record Loop (s : Bytes) (depth here : ℕ) (hd : Head) (hs ks : List Head) (
   pub faults : List Fault
   pub upto : j ≤ arity hd
   pub lines : Lines s (c .at) heads (length s)
-  pub met : Met (map (wanted (25 - (depth - 1))) (drop j (roles hd))) heads ks
-  pub inner : AllIn (map (wanted (25 - (depth - 1))) (drop j (roles hd)))
+  pub met : Met (map (wanted (depth - 1)) (drop j (roles hd))) heads ks
+  pub inner : AllIn (map (wanted (depth - 1)) (drop j (roles hd)))
   pub count : c .line .0 + length heads ≡ here + suc (length hs)
   pub above : c .line .0 ≤ c .at + 1
   pub same : kids here (typingOf (rule hd)) (start (typingOf (rule hd))) (roles hd) (take (arity hd) (walk env (suc here) hs))
@@ -152,8 +147,8 @@ loop-start {s} {h} {here} {depth} {hd} {hs} {ks} B env out work y c st e a =
       above = omega (arith, e .0, e .1, B .above);
       same = ap (λ (x : ℕ). kids here q (start q) (roles hd) (take (length (roles hd)) (walk env x hs))) n ∙ sym (after-none _);
       low-kids = subst (λ (x : ℕ). All (λ r. levels (r .ty) ≤ depth - 1) (take (length (roles hd)) (walk env x hs))) n
-          (subst (λ (x : ℕ). All (λ r. levels (r .ty) ≤ x) (take (length (roles hd)) (walk env (suc here) hs))) (omega (arith, base-pos B, B .deep))
-          (children-low env here (25 - depth) hd hs ks (B .met)));
+          (subst (λ (x : ℕ). All (λ r. levels (r .ty) ≤ x) (take (length (roles hd)) (walk env (suc here) hs))) (omega (arith, base-pos B))
+          (children-low env here depth hd hs ks (B .met)));
       state = a .0;
       fine = a .1;
       form = form-start q;

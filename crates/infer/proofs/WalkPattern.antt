@@ -113,7 +113,7 @@ pub record PatLoop (s : Bytes) (depth here : ℕ) (hd : Head) (hs ks : List Head
   pub many : length wants ≡ todo
   pub lines : Lines s (c .at) heads (length s)
   pub met : Met wants heads ks
-  pub inner : AllAt (25 - depth) wants
+  pub inner : AllAt depth wants
   pub count : c .line .0 + length heads ≡ here + suc (length hs)
   pub above : c .line .0 ≤ c .at + 1
   pub room : length s < 4294967294
@@ -123,7 +123,7 @@ pub record PatLoop (s : Bytes) (depth here : ℕ) (hd : Head) (hs ks : List Head
   pub text : length (faultsText faults) + 2048 * length heads ≤ 2048 * suc (length hs)
   pub few : length faults + 2048 * length heads ≤ 2048 * suc (length hs)
 
-pub pat-start : {s : Bytes} {p : Place} {depth : ℕ} {c : Cur} (t : TreeAt (at p (25 - depth)) s c) → 3 < rank p → (env : Env) (out : Bytes) (y : Tally)
+pub pat-start : {s : Bytes} {p : Place} {depth : ℕ} {c : Cur} (t : TreeAt (at p depth) s c) → 3 < rank p → (env : Env) (out : Bytes) (y : Tally)
     → PatLoop s depth (c .line .0) (t .head) (t .under) (t .rest) env out y out c y 1
 unfolding allFaults allTests faultsText
 pat-start {s} {p} {depth} {c} t i env out y =
@@ -132,7 +132,7 @@ pat-start {s} {p} {depth} {c} t i env out y =
     let w : take 1 (walk env n (t .head ∷ t .under)) ≡ r ∷ [] = walk-first env n 0 (t .head) (t .under) in
     record {
       heads = t .head ∷ t .under;
-      wants = at p (25 - depth) ∷ [];
+      wants = at p depth ∷ [];
       faults = [];
       many = refl;
       lines = a-line (t .line) (t .lines);
@@ -160,10 +160,10 @@ module _ {s : Bytes} {depth here : ℕ} {hd : Head} {hs ks : List Head} {env : E
   pat-line = omega (arith, L .above, pat-inside)
 
   module _ (more : 0 < todo) where
-    pub pat-at : FirstAt (25 - depth) (L .wants)
+    pub pat-at : FirstAt depth (L .wants)
     pat-at = first-at (L .inner) (omega (arith, L .many))
 
-    pub pat-first : First (at (pat-at .place) (25 - depth)) (pat-at .rest) (L .heads) ks
+    pub pat-first : First (at (pat-at .place) depth) (pat-at .rest) (L .heads) ks
     pat-first = first-met (subst (λ (x : List Want). Met x (L .heads) ks) (pat-at .same) (L .met))
 
     pub pat-next : FirstLine s (c .at) (pat-first .head) (pat-first .under) (length s)
@@ -188,11 +188,11 @@ module _ {s : Bytes} {depth here : ℕ} {hd : Head} {hs ks : List Head} {env : E
         ∙ walk-first env (c .line .0) (todo - 1) (pat-first .head) (pat-first .under)
 
     -- an expression
-    module _ (g : Seen) (read : ReadAs s (c .at) g (split 10 (drop (c .at) s))) (deep : depth ≤ 24) where
+    module _ (g : Seen) (read : ReadAs s (c .at) g (split 10 (drop (c .at) s))) where
       module _ (is : rank (place (pat-first .head)) ≡ 13) where
-        pat-met : Met (at AtExpression (25 - depth) ∷ []) (pat-first .head ∷ pat-first .under) (pat-first .behind)
+        pat-met : Met (at AtExpression depth ∷ []) (pat-first .head ∷ pat-first .under) (pat-first .behind)
         pat-met =
-            subst (λ (q : Place). Met (at q (25 - depth) ∷ []) (pat-first .head ∷ pat-first .under) (pat-first .behind)) (rank-expr (pat-at .place) (sym (met-rank (pat-first .met)) ∙ is)) (pat-first .met)
+            subst (λ (q : Place). Met (at q depth ∷ []) (pat-first .head ∷ pat-first .under) (pat-first .behind)) (rank-expr (pat-at .place) (sym (met-rank (pat-first .met)) ∙ is)) (pat-first .met)
 
         abbrev pat-expr : ExprAt s g c depth
         pat-expr =
@@ -210,7 +210,6 @@ module _ {s : Bytes} {depth here : ℕ} {hd : Head} {hs ks : List Head} {env : E
               };
               is = pat-read g read .0;
               next = pat-read g read .1;
-              deep = deep;
             }
 
         pub pat-ask : {b : Binds} {work : Bytes} → EnvAs s b env → 1024 * (depth + 40) ≤ length work → Counting y₀ (suc (length hs)) → ExprAsk s b g c depth work y
@@ -258,7 +257,7 @@ module _ {s : Bytes} {depth here : ℕ} {hd : Head} {hs ks : List Head} {env : E
             unfolding allFaults
             pat-on =
                 let b = pat-done .behind in
-                let t = tree-faults env (c .line .0) (pat-first .head) (pat-first .under) (pat-first .behind) (at (pat-at .place) (25 - depth)) (pat-at .inside) (pat-first .met) in
+                let t = tree-faults env (c .line .0) (pat-first .head) (pat-first .under) (pat-first .behind) (at (pat-at .place) depth) (pat-at .inside) (pat-first .met) in
                 let la = ap length (pat-first .same) in
                 record {
                   heads = pat-first .behind;
@@ -303,10 +302,10 @@ module _ {s : Bytes} {depth here : ℕ} {hd : Head} {hs ks : List Head} {env : E
         pass-level : (rank (pat-at .place) ≡ 13 → ⊥)
         pass-level e = isn't (met-rank (pat-first .met) ∙ e)
 
-        pass-wants : under (at (pat-at .place) (25 - depth)) (pat-first .head) ≡ map (wanted (25 - depth)) (roles (pat-first .head))
+        pass-wants : under (at (pat-at .place) depth) (pat-first .head) ≡ map (wanted depth) (roles (pat-first .head))
         pass-wants =
-            inner-under (at (pat-at .place) (25 - depth)) (pat-first .head) (pat-at .inside) (pat-first .fits) .0
-            ∙ ap (λ (d : ℕ). map (wanted d) (roles (pat-first .head))) (deeper-same (pat-at .place) (25 - depth) pass-level)
+            inner-under (at (pat-at .place) depth) (pat-first .head) (pat-at .inside) (pat-first .fits) .0
+            ∙ ap (λ (d : ℕ). map (wanted d) (roles (pat-first .head))) (deeper-same (pat-at .place) depth pass-level)
 
         pub pass-room : c .line .0 < 4294967295
         pass-room = omega (arith, pat-line, L .room)
@@ -314,7 +313,7 @@ module _ {s : Bytes} {depth here : ℕ} {hd : Head} {hs ks : List Head} {env : E
         pub pass : (c′ : Cur) → (c′ .at ≡ g .next) × (c′ .line .0 ≡ c .line .0 + 1) → PatLoop s depth here hd hs ks env out₀ y₀ out c′ y (todo - 1 + kk .all)
         unfolding allFaults allTests arity
         pass c′ e =
-            let d = 25 - depth in
+            let d = depth in
             let ps = roles (pat-first .head) in
             let la = ap length (pat-first .same) in
             let n : suc (c .line .0) ≡ c′ .line .0 = omega (arith, e .1) in
@@ -352,7 +351,7 @@ module _ {s : Bytes} {depth here : ℕ} {hd : Head} {hs ks : List Head} {env : E
     pat-zero : todo ≡ 0
     pat-zero = omega arith
 
-    pub pat-end : (workE work : Bytes) {p : Place} → rule hd ≡ silent → Met (at p (25 - depth) ∷ []) (hd ∷ hs) ks → 3 < rank p → 2 ≤ length work → length work ≡ length workE
+    pub pat-end : (workE work : Bytes) {p : Place} → rule hd ≡ silent → Met (at p depth ∷ []) (hd ∷ hs) ks → 3 < rank p → 2 ≤ length work → length work ≡ length workE
         → Walked env s here hd hs ks workE (set (set work 0 80) 1 44) out₀ out y₀ (Done 2 c y)
     unfolding allFaults allTests firstLarge
     pat-end workE work {p} e m i l w =

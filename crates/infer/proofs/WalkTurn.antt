@@ -150,17 +150,17 @@ module _ {s : Bytes} {h : Seen} {here depth : ℕ} {hd : Head} {hs ks : List Hea
     unfolding arity
     turn-split = drop-cons (roles hd) j plain lt
 
-    pub turn-first : First (at (placed (roleAt hd j)) (25 - (depth - 1))) (map (wanted (25 - (depth - 1))) (drop (suc j) (roles hd))) (L .heads) ks
+    pub turn-first : First (at (placed (roleAt hd j)) (depth - 1)) (map (wanted (depth - 1)) (drop (suc j) (roles hd))) (L .heads) ks
     turn-first =
-        let d = 25 - (depth - 1) in
+        let d = depth - 1 in
         first-met (subst (λ (x : Want). Met (x ∷ map (wanted d) (drop (suc j) (roles hd))) (L .heads) ks) (wanted-at d (roleAt hd j))
         (subst (λ (ps : List Role). Met (map (wanted d) ps) (L .heads) ks) turn-split (L .met)))
 
-    turn-inner : Inner (wanted (25 - (depth - 1)) (roleAt hd j)) × AllIn (map (wanted (25 - (depth - 1))) (drop (suc j) (roles hd)))
-    turn-inner = in-first (subst (λ (ps : List Role). AllIn (map (wanted (25 - (depth - 1))) ps)) turn-split (L .inner))
+    turn-inner : Inner (wanted (depth - 1) (roleAt hd j)) × AllIn (map (wanted (depth - 1)) (drop (suc j) (roles hd)))
+    turn-inner = in-first (subst (λ (ps : List Role). AllIn (map (wanted (depth - 1)) ps)) turn-split (L .inner))
 
     pub turn-in : 3 < rank (placed (roleAt hd j))
-    turn-in = subst Inner (wanted-at (25 - (depth - 1)) (roleAt hd j)) (turn-inner .0)
+    turn-in = subst Inner (wanted-at (depth - 1) (roleAt hd j)) (turn-inner .0)
 
     pub turn-line : FirstLine s (c .at) (turn-first .head) (turn-first .under) (length s)
     turn-line = first-line (subst (λ (x : List Head). Lines s (c .at) x (length s)) (turn-first .same) (L .lines))
@@ -186,7 +186,6 @@ module _ {s : Bytes} {h : Seen} {here depth : ℕ} {hd : Head} {hs ks : List Hea
           };
           is = turn-read k r .0;
           next = turn-read k r .1;
-          deep = omega (arith, B .deep);
         }
 
     pub turn-ask : (b : Binds) (k : Seen) (r : ReadAs s (c .at) k (split 10 (drop (c .at) s))) → EnvAs s b env → (part : Bytes) → 1024 * (depth + 40) ≤ length part + st .len → Counting y₀ (suc (length hs))
@@ -266,7 +265,7 @@ module _ {s : Bytes} {h : Seen} {here depth : ℕ} {hd : Head} {hs ks : List Hea
         let q = typingOf (rule hd) in
         let p = roleAt hd j in
         let gs = turnRes .faults ++ asked p (turnRes .ty) in
-        let t = tree-faults env (c .line .0) (turn-first .head) (turn-first .under) (turn-first .behind) (at (placed p) (25 - (depth - 1))) turn-in (turn-first .met) in
+        let t = tree-faults env (c .line .0) (turn-first .head) (turn-first .under) (turn-first .behind) (at (placed p) (depth - 1)) turn-in (turn-first .met) in
         let la = ap length (turn-first .same) in
         let fl = faults-short (asked p (turnRes .ty)) in
         let af = asked-few p (turnRes .ty) in
@@ -296,6 +295,6 @@ module _ {s : Bytes} {h : Seen} {here depth : ℕ} {hd : Head} {hs ks : List Hea
 
     pub turn-countable : (out′ : Bytes) (y′ : Tally) → Adds (turnRes .faults) out out′ y y′ → Counting y₀ (suc (length hs)) → Countable y′
     turn-countable out′ y′ a n =
-        let t = tree-faults env (c .line .0) (turn-first .head) (turn-first .under) (turn-first .behind) (at (placed (roleAt hd j)) (25 - (depth - 1))) turn-in (turn-first .met) in
+        let t = tree-faults env (c .line .0) (turn-first .head) (turn-first .under) (turn-first .behind) (at (placed (roleAt hd j)) (depth - 1)) turn-in (turn-first .met) in
         let la = ap length (turn-first .same) in
         record { fill = omega (arith, n .fill, L .adds .end, L .text, a .end, t .0, la); faults = omega (arith, n .faults, L .adds .count, L .few, a .count, t .1, la) }

@@ -65,10 +65,9 @@ pub record Walked (env : Env) (s : Bytes) (n : ℕ) (h : Head) (hs ks : List Hea
 -- ## An expression: `depth` levels are left, this one included
 
 pub record ExprAt (s : Bytes) (h : Seen) (c : Cur) (depth : ℕ) : Type 0 where
-  pub tree : TreeAt (at AtExpression (25 - depth)) s c
+  pub tree : TreeAt (at AtExpression depth) s c
   pub is : HeadIs s h (tree .head)
   pub next : h .next ≡ tree .next
-  pub deep : depth ≤ 24
 
 pub record ExprAsk (s : Bytes) (b : Binds) (h : Seen) (c : Cur) (depth : ℕ) (work : Bytes) (y : Tally) : Type 0 where
   pub at : ExprAt s h c depth
@@ -86,10 +85,9 @@ ExprWalked s b h c depth work work′ out out′ y r =
 pub record AnyAt (s : Bytes) (k : Seen) (c : Cur) (depth : ℕ) : Type 0 where
   pub place : Place
   pub inside : 3 < rank place
-  pub tree : TreeAt (at place (25 - depth)) s c
+  pub tree : TreeAt (at place depth) s c
   pub is : HeadIs s k (tree .head)
   pub next : k .next ≡ tree .next
-  pub deep : depth ≤ 24
 
 pub record AnyAsk (s : Bytes) (b : Binds) (k : Seen) (c : Cur) (depth : ℕ) (work : Bytes) (y : Tally) : Type 0 where
   pub at : AnyAt s k c depth

@@ -182,7 +182,7 @@ unfolding beyond
 beyond-passed first h f p = (f, p)
 beyond-passed clauses h f p = (f, p)
 beyond-passed (bindings v) h f p = either (Passed (bindings v)) (eqb (rank (place h)) 1 && ltb (variableOf h) v) tt (f, p)
-beyond-passed (at q d) h f p = either (Passed (at q d)) (eqb (rank q) 13 && ltb 24 d) tt (f, p)
+beyond-passed (at q d) h f p = either (Passed (at q d)) (eqb (rank q) 13 && eqb d 0) tt (f, p)
 
 then-passed : (w : Want) (v : Word) (r : Read) → OfWord v r → OkForms r → fits w (rank (row v .place)) ≡ true → Passed w (andThen r (beyond w))
 then-passed w v (bad c) p q f = tt

@@ -102,7 +102,7 @@ unfolding beyond
 beyond-fine first h = tt
 beyond-fine clauses h = tt
 beyond-fine (bindings v) h = either FineRead (eqb (rank (place h)) 1 && ltb (variableOf h) v) three tt
-beyond-fine (at q d) h = either FineRead (eqb (rank q) 13 && ltb depthLimit d) five tt
+beyond-fine (at q d) h = either FineRead (eqb (rank q) 13 && eqb d 0) five tt
 
 then-fine : (r : Read) (f : Head → Read) → FineRead r → ((h : Head) → FineRead (f h)) → FineRead (andThen r f)
 then-fine (bad c) f p q = p

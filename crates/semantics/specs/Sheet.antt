@@ -295,7 +295,7 @@ abbrev pub bare : Word → Head
 bare w = record { word = w; var = none; nums = []; name = [] }
 
 -- what is to come: the first line; a binding of a variable of at least this, a clause or the end; a clause or the end; a line of a
--- place, where an expression stands at this depth
+-- place, with so many levels left for an expression there
 pub data Want : Type 0 where
   first clauses : Want
   bindings : ℕ → Want
@@ -331,7 +331,7 @@ unfoldable pub beyond : Want → Head → Read
 beyond first h = ok h
 beyond clauses h = ok h
 beyond (bindings v) h = elim (eqb (rank (place h)) 1 && ltb (variableOf h) v) [ true ↦ bad 3 | false ↦ ok h ]
-beyond (at q d) h = elim (eqb (rank q) 13 && ltb depthLimit d) [ true ↦ bad 5 | false ↦ ok h ]
+beyond (at q d) h = elim (eqb (rank q) 13 && eqb d 0) [ true ↦ bad 5 | false ↦ ok h ]
 
 abbrev pub andThen : Read → (Head → Read) → Read
 andThen (bad c) f = bad c
@@ -354,12 +354,12 @@ readLine w l = readPieces w (split 44 l)
 
 -- ## A sheet
 
--- the depth of the expressions under a line: one more under an expression, the same under any other
+-- the levels left for the expressions under a line: one less under an expression, the same under any other
 abbrev pub deeper : Want → ℕ
-deeper first = 1
-deeper clauses = 1
-deeper (bindings v) = 1
-deeper (at q d) = cond (eqb (rank q) 13) (suc d) d
+deeper first = depthLimit
+deeper clauses = depthLimit
+deeper (bindings v) = depthLimit
+deeper (at q d) = cond (eqb (rank q) 13) (d - 1) d
 
 abbrev pub wanted : ℕ → Role → Want
 wanted d plain = at AtExpression d

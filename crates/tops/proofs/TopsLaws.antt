@@ -8,6 +8,7 @@ use lib.Dec.{eqb, ltb, leb}
 use lib.ListN.{length, getD, take, drop, replicate, length-append, length-map}
 use lib.Seq.{drop-drop}
 use borrow.Author.Tests.{eqb-true, eqb-false, ltb-true, leb-true, ne-eqb, eq-eqb}
+use Rattle.semantics.specs.Limits.{depthLimit}
 use Rattle.semantics.specs.Bytes.{Bytes}
 use Rattle.semantics.specs.Sheet.{kids, Word, Place, AtFirst, AtBinding, AtClause, AtEnd, AtProjection, AtSetItem, AtRemoveItem, AtLabel, AtParts, AtPart, AtElement, AtEntry, AtItem, AtExpression, Role, plain, condition, answer, inner, Typing, Rule, silent, entering, typed, present, armRoles, deeper, Head, rank, place, rule, row, Want, clauses, at, wanted, fits, beyond, ok, under, after, roles, arity}
 use Rattle.semantics.specs.Ty.{Ty}
@@ -386,9 +387,9 @@ clauses-out (suc k) env n [] l m = refl
 clauses-out (suc k) env n (h ∷ hs) l m =
     let o = opened m in
     let c = clause-rank (rank (place h)) (o .fits) in
-    let kids = map (wanted 1) (roles h) in
+    let kids = map (wanted depthLimit) (roles h) in
     let s = met-split kids (after h ++ []) hs [] (subst (λ (y : List Want). Met y hs []) (append-assoc kids (after h) []) (o .below)) in
-    let b = kids-behind 1 h hs (s .0) (s .1) env (suc n) in
+    let b = kids-behind depthLimit h hs (s .0) (s .1) env (suc n) in
     let r = step env n h (take (arity h) (walk env (suc n) hs)) in
     let rs = drop (arity h) (walk env (suc n) hs) in
     let fs = drop (arity h) (fronts hs) in
@@ -426,7 +427,7 @@ laid-out s r x =
 -- the wants before a line to which the report comes: places inside a clause, none of an entry, not below an expression, and last the clauses
 pub data Open : List Want → Type 0 where
   open-top : Open (clauses ∷ [])
-  open-in : {x : Place} {ws : List Want} → 3 < rank x → (rank x ≡ 11 → ⊥) → Open ws → Open (at x 1 ∷ ws)
+  open-in : {x : Place} {ws : List Want} → 3 < rank x → (rank x ≡ 11 → ⊥) → Open ws → Open (at x depthLimit ∷ ws)
 
 -- the report is before these lines
 pub record Standing (hs : List Head) : Type 0 where
@@ -458,7 +459,7 @@ stand-end h hs x e = go (x .opens) (x .met)
     go open-top m = met-end clauses h hs [] e m
     go (open-in {x = p} a b y) m = absurd (omega (arith, eqb-true (rank (place h)) (rank p) (opened m .fits)))
 
-open-kids : {c : ℕ} {ps : List Role} {ws : List Want} → Fine c ps → c ≡ 0 → Open ws → Open (map (wanted 1) ps ++ ws)
+open-kids : {c : ℕ} {ps : List Role} {ws : List Want} → Fine c ps → c ≡ 0 → Open ws → Open (map (wanted depthLimit) ps ++ ws)
 unfolding rank
 open-kids empty e y = y
 open-kids (also fine-plain x) e y = open-in {x = AtExpression} (omega arith) (λ z. omega arith) (open-kids x e y)
@@ -467,7 +468,7 @@ open-kids (also fine-answer x) e y = open-in {x = AtExpression} (omega arith) (�
 open-kids (also (fine-inner p a b o) x) e y = open-in a (λ z. omega (arith, o z)) (open-kids x e y)
 
 -- below a line that is no expression the depth is the same
-same-depth : (p : Place) → (rank p ≡ 13 → ⊥) → deeper (at p 1) ≡ 1
+same-depth : (p : Place) → (rank p ≡ 13 → ⊥) → deeper (at p depthLimit) ≡ depthLimit
 same-depth p n = rw (ne-eqb (rank p) 13 n)
 
 -- the place of an expression
@@ -489,7 +490,7 @@ pub stand-skip : (env : Env) (n : ℕ) (h : Head) (hs : List Head) → Standing 
 unfolding fits under
 stand-skip env n h hs x ne nl = go (x .opens) (x .met)
   where
-    kids : {ws : List Want} → rule h ≡ silent → Open ws → Open (map (wanted 1) (roles h) ++ ws)
+    kids : {ws : List Want} → rule h ≡ silent → Open ws → Open (map (wanted depthLimit) (roles h) ++ ws)
     kids e y = open-kids (all-fine h) (ap kind e) y
 
     done : (w : Want) (ws : List Want) → rule h ≡ silent → Met (w ∷ ws) (h ∷ hs) [] → Open (under w h ++ ws) → Skipped env n h hs
@@ -500,13 +501,13 @@ stand-skip env n h hs x ne nl = go (x .opens) (x .met)
         let c = clause-rank (rank (place h)) (opened m .fits) in
         let e : rule h ≡ silent = top-silent h (omega (arith, c .1)) in
         let two : rank (place h) ≡ 2 = between (rank (place h)) c nl in
-        let u : under clauses h ≡ map (wanted 1) (roles h) ++ (clauses ∷ []) = ap (λ (z : List Want). map (wanted 1) (roles h) ++ z) (after-clause h two) in
+        let u : under clauses h ≡ map (wanted depthLimit) (roles h) ++ (clauses ∷ []) = ap (λ (z : List Want). map (wanted depthLimit) (roles h) ++ z) (after-clause h two) in
         done clauses [] e m (subst Open (sym (append-nil (under clauses h))) (subst Open (sym u) (kids e open-top)))
     go (open-in {x = p} {ws = ws} a b y) m =
         let f = eqb-true (rank (place h)) (rank p) (opened m .fits) in
         let e : rule h ≡ silent = line-silent h ne (λ z. b (sym f ∙ z)) in
-        let u : under (at p 1) h ≡ map (wanted 1) (roles h) = inner-under (at p 1) h a (opened m .fits) .0 ∙ ap (λ (d : ℕ). map (wanted d) (roles h)) (same-depth p (λ z. ne (f ∙ z))) in
-        done (at p 1) ws e m (subst (λ (z : List Want). Open (z ++ ws)) (sym u) (kids e y))
+        let u : under (at p depthLimit) h ≡ map (wanted depthLimit) (roles h) = inner-under (at p depthLimit) h a (opened m .fits) .0 ∙ ap (λ (d : ℕ). map (wanted d) (roles h)) (same-depth p (λ z. ne (f ∙ z))) in
+        done (at p depthLimit) ws e m (subst (λ (z : List Want). Open (z ++ ws)) (sym u) (kids e y))
 
 -- an expression is typed, and the report is behind its tree
 pub record Typed (env : Env) (n : ℕ) (h : Head) (hs : List Head) (r : Res) : Type 0 where
@@ -515,7 +516,7 @@ pub record Typed (env : Env) (n : ℕ) (h : Head) (hs : List Head) (r : Res) : T
   pub left : List Head
   pub lines : ℕ
   pub long : length (h ∷ hs) ≡ lines + length left
-  pub met : Met (at AtExpression 1 ∷ []) (h ∷ hs) left
+  pub met : Met (at AtExpression depthLimit ∷ []) (h ∷ hs) left
   pub next : Standing left
   pub tops : outTops env n (h ∷ hs) ≡ topOf r ∷ outTops env (n + lines) left
   pub tests : allTests (walk env n (h ∷ hs)) ≡ r .tests ++ allTests (walk env (n + lines) left)
@@ -529,7 +530,7 @@ stand-expr env n h hs x e = go (x .opens) (x .met)
     go (open-in {x = p} {ws = ws} a b y) m =
         let q = line-typed h e in
         let o = opened m in
-        let t = out-expr-met env n (at p 1) ws h hs [] (q .0) (q .1) a m in
+        let t = out-expr-met env n (at p depthLimit) ws h hs [] (q .0) (q .1) a m in
         let x : p ≡ AtExpression = expression p (sym (eqb-true (rank (place h)) (rank p) (o .fits)) ∙ e) in
         record {
           typing = q .0;
@@ -537,7 +538,7 @@ stand-expr env n h hs x e = go (x .opens) (x .met)
           left = t .left;
           lines = t .lines;
           long = t .long;
-          met = subst (λ (z : Place). Met (at z 1 ∷ []) (h ∷ hs) (t .left)) x (meets (o .fits) (o .beyond) (subst (λ (z : List Want). Met z hs (t .left)) (sym (append-nil (under (at p 1) h))) (t .inside)));
+          met = subst (λ (z : Place). Met (at z depthLimit ∷ []) (h ∷ hs) (t .left)) x (meets (o .fits) (o .beyond) (subst (λ (z : List Want). Met z hs (t .left)) (sym (append-nil (under (at p depthLimit) h))) (t .inside)));
           next = record { wants = ws; opens = y; met = t .rest };
           tops = t .tops;
           tests = t .tests;

@@ -40,7 +40,7 @@ abbrev check-kids-claims : ℕ → check-kids-lts.Claims
 check-kids-claims t = (kids-of-reads.Asked, kids-of-reads.Learnt, class-at-reads.Asked, class-at-reads.Learnt, read-line-reads.Asked, read-line-reads.Learnt, verdict-reads.Asked, verdict-reads.Learnt, next-line-reads.Asked, next-line-reads.Learnt, below-reads.Asked, below-reads.Learnt, check-kids-below t, check-kids.Post)
 
 abbrev check-kids-Inv-loop : check-kids-lts.InvT-loop
-check-kids-Inv-loop sheet depth kids n p₀ l₀ j₀ p l j = KidsInv sheet kids (25 - depth) n p₀ (l₀ .0) p (l .0) j
+check-kids-Inv-loop sheet depth kids n p₀ l₀ j₀ p l j = KidsInv sheet kids depth n p₀ (l₀ .0) p (l .0) j
 
 abbrev check-kids-μ-loop : check-kids-lts.MeasureT-loop
 check-kids-μ-loop sheet depth kids n p₀ l₀ j₀ p l j = n - j
