@@ -152,7 +152,9 @@ def main():
     put("line/specs/Arrays.antt", ("\nfieldRows = ", " ∷ []\n", " ∷ ".join(map(str, fields))), ("\nkidRows = ", " ∷ []\n", " ∷ ".join(map(str, kids))))
     shown = ["-"] + [r["spelled"] for r in every]
     codes = [(ROWS[w]["code"], NUMBER[w], ROWS[w]["spelled"]) for w in reversed(LISTED)]
+    whole = [(ROWS[w]["code"], NUMBER[w] + 64 * ROWS[w]["fields"], ROWS[w]["spelled"]) for w in reversed(LISTED)]
     put("line/src/table.rt", ("    match code {\n", "        _ => 0", arms(codes)),
+        ("pub fn row_of(code: u64) -> u64\n    ensures { λ r. ⌜ r ≡ rowIn code words ⌝ }\n{\n    match code {\n", f"        _ => {64 * fields[0]}", arms(whole)),
         ("fn fields_row(word: usize) -> u64\n    ensures { λ r. ⌜ r ≡ getD fieldRows word 0 ⌝ }\n{\n    match word {\n", "        _ => 0", arms(zip(range(len(fields)), fields, shown))),
         ("fn kids_row(word: usize) -> usize\n    ensures { λ r. ⌜ r ≡ getD kidRows word 0 ⌝ }\n{\n    match word {\n", "        _ => 0", arms(zip(range(len(kids)), kids, shown))))
     for name, listed in (("fields_row", "fieldRows"), ("kids_row", "kidRows")):
@@ -164,6 +166,12 @@ def main():
           "use Rattle.semantics.specs.Bytes.{text}\nuse Rattle.semantics.specs.Sheet.{row, words}\n", "numberIn wordNo codeFrom text row",
           "λ c. rw (c .match .keys{})", len(WORDS), "rest",
           f"rest : tie.Need-returns-{len(WORDS) + 1}\nunfolding codeFrom text row\nrest c = none-met _ words (c .match .rest)\n\n")
+    proof("line.table.row_of", "an arm's number is the word's, and its row above it; where no arm is met no word is.",
+          "use mathlib.Core.Path.{refl, ap}\nuse Prim.Native.Nat.{ℕ, _+_, _*_}\nuse lib.ListN.{getD}\nuse Rattle.line.specs.Arrays.{fieldRows}\n"
+          "use Rattle.line.specs.Rows.{wordNo, codeFrom, numberIn}\nuse Rattle.line.proofs.Words.{none-met}\n"
+          "use Rattle.semantics.specs.Bytes.{text}\nuse Rattle.semantics.specs.Sheet.{row, words}\n", "numberIn wordNo codeFrom text row fieldRows",
+          "λ c. rw (c .match .keys{})", len(WORDS), "rest",
+          f"rest : tie.Need-returns-{len(WORDS) + 1}\nunfolding codeFrom text row fieldRows\nrest c = ap (λ (n : ℕ). n + 64 * getD fieldRows n 0) (none-met _ words (c .match .rest))\n\n")
     # rules and constant letters: the words that have a type stand together
     typed = [i for i, r in enumerate(every, 1) if r["rule"] != 12]
     span = range(typed[0], typed[-1] + 1)

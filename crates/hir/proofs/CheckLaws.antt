@@ -288,6 +288,14 @@ bits-small zero b h l = omega arith
 bits-small (suc zero) b h l = omega arith
 bits-small (suc (suc a)) b h l = absurd (omega arith)
 
+no-size : (c f : ℕ) → groupSize 0 c f ≡ 0
+unfolding groupSize
+no-size c f = omega arith
+
+no-kids : (w c f d : ℕ) → getD groups w 0 ≡ 0 → getD seconds w 0 ≡ 0 → kidWants w c f d ≡ []
+unfolding kidWants
+no-kids w c f d a b = rw (a, b, no-size c f)
+
 -- ## One turn, by what the code has at hand
 
 level-small : (c : ℕ) → level c ≤ 13
@@ -327,6 +335,19 @@ module _ (s : Bytes) (h : Seen) (line depth : ℕ) (ask : KidsAsk s h line depth
 
       pub step-room : l < 4294967295
       step-room = omega (arith, ask .room, inv .above, inv .inside)
+
+      -- nothing can stand below the line
+      pub step-leaf : (m : ℕ) → m ≡ l + 1 → (getD groups (k .word) 0 ≡ 0) × (getD seconds (k .word) 0 ≡ 0) → KidsInv s ks (25 - depth) n (h .next) line (k .next) m (j + 1)
+      step-leaf m em none =
+          kids-on s ks (25 - depth) depth n (h .next) line p l j inv more whole c ec k r (un .small) go (k .next) m
+          (record {
+            heads = [];
+            same = rw (no-kids (k .word) (k .count) (k .flag) (pickC (eqb c 13) (suc (25 - depth)) (25 - depth)) (none .0) (none .1))
+                (run-none (split 10 (drop (k .next) s)) (suc l) ∙ ap (λ (x : ℕ). passed [] x (split 10 (drop (k .next) s))) (sym (em ∙ add-one l)));
+            on = omega arith;
+            inside = go .inside;
+            above = omega (arith, em, inv .above, go .on);
+          })
 
       pub step-deep : c ≡ 13 → 0 < depth
       step-deep = go .deep

@@ -16,6 +16,7 @@ use line::HirId;
 use line::class_of;
 use line::group1_of;
 use line::group2_of;
+use line::is_leaf;
 use line::read_line;
 
 // A tree of lines is fine, and what follows starts at `next`, line `line`; or it is refused.
@@ -117,13 +118,19 @@ pub fn check_kids(sheet: &[u8], h: Head, line: HirId, depth: usize) -> Check
         if why != 0 {
             return Check::Refused { why, line: l };
         }
-        match check_kids(sheet, k, next_line(l), below(c, depth)) {
-            Check::Fine { next, line } => {
-                p = next;
-                l = line;
-            }
-            Check::Refused { why, line } => {
-                return Check::Refused { why, line };
+        let m = next_line(l);
+        if is_leaf(k.word) {
+            p = k.next;
+            l = m;
+        } else {
+            match check_kids(sheet, k, m, below(c, depth)) {
+                Check::Fine { next, line } => {
+                    p = next;
+                    l = line;
+                }
+                Check::Refused { why, line } => {
+                    return Check::Refused { why, line };
+                }
             }
         }
         j += 1;

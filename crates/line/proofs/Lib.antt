@@ -3,6 +3,8 @@ pub mod FieldLaws
 pub mod Rows
 pub mod ValueLaws
 pub mod FillLaws
+pub mod QuickFields
 pub mod LineLaws
 pub mod ReadLaws
 pub mod Tables
+pub mod QuickLaws

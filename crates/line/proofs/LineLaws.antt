@@ -12,7 +12,7 @@ use lib.ListN.{length, getD, take, drop, length-append, drop-of-length-le}
 use lib.Seq.{slice, drop-cons}
 use borrow.Author.Tests.{eqb-true, eqb-false, ne-eqb, eq-eqb, le-leb, lt-leb, leb-true, lt-ltb, le-ltb}
 use Rattle.semantics.specs.Bytes.{Bytes, front, split}
-use Rattle.semantics.specs.Sheet.{Word, Head, Field, range, variable, optional, name, alias, bound, letter, signed, float, Value, wrong, number, variableV, nameV, aliasV, Read, bad, ok, into, fill, bare, value}
+use Rattle.semantics.specs.Sheet.{Word, NULL, Head, Field, range, variable, optional, name, alias, bound, letter, signed, float, Value, wrong, number, variableV, nameV, aliasV, Read, bad, ok, into, fill, bare, value}
 use Rattle.line.specs.declared.field.Val.{Val}
 use Rattle.line.specs.declared.field.Fields.{Fields}
 use Rattle.line.specs.declared.line.Filled.{Filled}
@@ -135,66 +135,81 @@ put-on letter f k p q n = omega arith
 put-on signed f k p q n = omega arith
 put-on float f k p q n = omega arith
 
+-- one field more
+module _ (s : Bytes) (k from n shapes : ℕ) (f : Fields) (p rest j : ℕ) (v : Word) (a : FillAt s k from n shapes f p rest j v) (more : j < n) (here : p ≤ length s)
+    (q : ℕ) (e : Ends 44 s p q) (r : Val) (er : r ≡ valOf (valueAt (fieldOf (rest % 32)) (f .second) (take (q - p) (drop p s)))) where
+  abbrev piece : Bytes
+  piece = slice p q s
+
+  abbrev said : Value
+  said = valueAt (fieldOf (rest % 32)) (f .second) piece
+
+  why-is : r .why ≡ whyOf said
+  why-is = ap (λ (x : Val). x .why) er ∙ ap (λ (x : Bytes). whyOf (valueAt (fieldOf (rest % 32)) (f .second) x)) (part-slice p q s)
+
+  num-is : r .n ≡ numOf said
+  num-is = ap (λ (x : Val). x .n) er ∙ ap (λ (x : Bytes). numOf (valueAt (fieldOf (rest % 32)) (f .second) x)) (part-slice p q s)
+
+  abbrev later : Head → Read
+  later h = fill h (fieldsOf (n - (j + 1)) (rest / 32)) (pieces s (q + 1))
+
+  turn : fill (bare v) (fieldsOf n shapes) (pieces s from) ≡ into (a .head) said later
+  unfolding fill fieldsOf
+  turn =
+      let z : n - j ≡ suc (n - (j + 1)) = omega arith in
+      a .same ∙ rw (z, pieces-step s p q here e, value-at (fieldOf (rest % 32)) (a .head .nums) piece, ← a .agrees .second)
+
+  pub field-stop : (r .why ≡ 0 → ⊥) → FilledAs s k (fill (bare v) (fieldsOf n shapes) (pieces s from)) (record { why = r .why; fields = f })
+  field-stop h =
+      let w : (whyOf said ≡ 0 → ⊥) = λ z. h (why-is ∙ z) in
+      rw (turn ∙ into-stop (a .head) said later w) (why-is, omega arith)
+
+  stored : (f′ : Fields) → f′ ≡ storedIn (fieldOf (rest % 32)) f k p q (r .n) → f′ ≡ storedIn (fieldOf (rest % 32)) f k p q (numOf said)
+  stored f′ ef = ef ∙ ap (storedIn (fieldOf (rest % 32)) f k p q) num-is
+
+  pub field-put : (f′ : Fields) → f′ ≡ storedIn (fieldOf (rest % 32)) f k p q (r .n) → f′ .put ≤ j + 1
+  field-put f′ ef = rw (stored f′ ef) (omega (arith, put-on (fieldOf (rest % 32)) f k p q (numOf said), a .few))
+
+  pub field-on : r .why ≡ 0 → (f′ : Fields) → f′ ≡ storedIn (fieldOf (rest % 32)) f k p q (r .n) → FillAt s k from n shapes f′ (q + 1) (rest / 32) (j + 1) v
+  field-on h f′ ef =
+      let w : whyOf said ≡ 0 = sym why-is ∙ h in
+      record {
+        head = absorbed (a .head) said;
+        same = turn ∙ into-on (a .head) said later (says (fieldOf (rest % 32)) (f .second) piece) w;
+        agrees = rw (stored f′ ef) (agrees-on s k f (a .head) (a .agrees) p q (e .within) (fieldOf (rest % 32)) said (says (fieldOf (rest % 32)) (f .second) piece) w);
+        few = field-put f′ ef;
+      }
+
 module _ (s : Bytes) (k from n shapes : ℕ) (f : Fields) (p rest j : ℕ) (i : FillInv s k from n shapes f p rest j) (more : j < n) where
   pub fill-inside : p ≤ length s
   fill-inside = inside s p (n - j) (i .many) (omega arith)
 
   module _ (q : ℕ) (e : Ends 44 s p q) (r : Val) (er : r ≡ valOf (valueAt (fieldOf (rest % 32)) (f .second) (take (q - p) (drop p s)))) where
-    abbrev piece : Bytes
-    piece = slice p q s
-
-    abbrev said : Value
-    said = valueAt (fieldOf (rest % 32)) (f .second) piece
-
-    why-is : r .why ≡ whyOf said
-    why-is = ap (λ (x : Val). x .why) er ∙ ap (λ (x : Bytes). whyOf (valueAt (fieldOf (rest % 32)) (f .second) x)) (part-slice p q s)
-
-    num-is : r .n ≡ numOf said
-    num-is = ap (λ (x : Val). x .n) er ∙ ap (λ (x : Bytes). numOf (valueAt (fieldOf (rest % 32)) (f .second) x)) (part-slice p q s)
-
-    abbrev later : Head → Read
-    later h = fill h (fieldsOf (n - (j + 1)) (rest / 32)) (pieces s (q + 1))
-
-    turn : (v : Word) → fill (bare v) (fieldsOf n shapes) (pieces s from) ≡ into (i .for v .head) said later
-    unfolding fill fieldsOf
-    turn v =
-        let a = i .for v in
-        let z : n - j ≡ suc (n - (j + 1)) = omega arith in
-        a .same ∙ rw (z, pieces-step s p q fill-inside e, value-at (fieldOf (rest % 32)) (a .head .nums) piece, ← a .agrees .second)
-
     pub fill-stop : (r .why ≡ 0 → ⊥) → (v : Word) → FilledAs s k (fill (bare v) (fieldsOf n shapes) (pieces s from)) (record { why = r .why; fields = f })
-    fill-stop h v =
-        let w : (whyOf said ≡ 0 → ⊥) = λ z. h (why-is ∙ z) in
-        rw (turn v ∙ into-stop (i .for v .head) said later w) (why-is, omega arith)
+    fill-stop h v = field-stop s k from n shapes f p rest j v (i .for v) more fill-inside q e r er h
 
     pub fill-on : r .why ≡ 0 → (f′ : Fields) → f′ ≡ storedIn (fieldOf (rest % 32)) f k p q (r .n) → FillInv s k from n shapes f′ (q + 1) (rest / 32) (j + 1)
     fill-on h f′ ef =
-        let w : whyOf said ≡ 0 = sym why-is ∙ h in
-        let ef′ : f′ ≡ storedIn (fieldOf (rest % 32)) f k p q (numOf said) = ef ∙ ap (storedIn (fieldOf (rest % 32)) f k p q) num-is in
-        let pu : f′ .put ≤ j + 1 = rw ef′ (omega (arith, put-on (fieldOf (rest % 32)) f k p q (numOf said), i .put)) in
         record {
           upto = omega arith;
           small = i .small;
           many = omega (arith, ap length (pieces-step s p q fill-inside e), i .many);
-          put = pu;
-          for = λ v. record {
-            head = absorbed (i .for v .head) said;
-            same = turn v ∙ into-on (i .for v .head) said later (says (fieldOf (rest % 32)) (f .second) piece) w;
-            agrees = rw ef′ (agrees-on s k f (i .for v .head) (i .for v .agrees) p q (e .within) (fieldOf (rest % 32)) said (says (fieldOf (rest % 32)) (f .second) piece) w);
-            few = pu;
-          };
+          put = field-put s k from n shapes f p rest j NULL (i .for NULL) more fill-inside q e r er f′ ef;
+          for = λ v. field-on s k from n shapes f p rest j v (i .for v) more fill-inside q e r er h f′ ef;
         }
+
+no-pieces : (ps : List Bytes) → length ps ≡ 0 → ps ≡ []
+no-pieces [] e = refl
+no-pieces (x ∷ ps) e = absurd (omega arith)
+
+pub field-end : (s : Bytes) (k from n shapes : ℕ) (f : Fields) (p rest j : ℕ) (v : Word) → FillAt s k from n shapes f p rest j v → n ≤ j → pieces s p ≡ []
+    → FilledAs s k (fill (bare v) (fieldsOf n shapes) (pieces s from)) (record { why = 0; fields = f })
+unfolding fill fieldsOf
+field-end s k from n shapes f p rest j v a over gone =
+    let z : n - j ≡ 0 = omega arith in
+    let full : fill (bare v) (fieldsOf n shapes) (pieces s from) ≡ ok (a .head) = a .same ∙ rw (z, gone) in
+    rw full (refl, a .agrees)
 
 pub fill-end : (s : Bytes) (k from n shapes : ℕ) (f : Fields) (p rest j : ℕ) → FillInv s k from n shapes f p rest j → n ≤ j
     → (v : Word) → FilledAs s k (fill (bare v) (fieldsOf n shapes) (pieces s from)) (record { why = 0; fields = f })
-unfolding fill fieldsOf
-fill-end s k from n shapes f p rest j i over v =
-    let z : n - j ≡ 0 = omega arith in
-    let a = i .for v in
-    let none : pieces s p ≡ [] = empty (pieces s p) (i .many ∙ z) in
-    let full : fill (bare v) (fieldsOf n shapes) (pieces s from) ≡ ok (a .head) = a .same ∙ rw (z, none) in
-    rw full (refl, a .agrees)
-  where
-    empty : (ps : List Bytes) → length ps ≡ 0 → ps ≡ []
-    empty [] e = refl
-    empty (x ∷ ps) e = absurd (omega arith)
+fill-end s k from n shapes f p rest j i over v = field-end s k from n shapes f p rest j v (i .for v) over (no-pieces (pieces s p) (omega (arith, i .many)))

@@ -245,13 +245,14 @@ wider s end l r (known v (ok h)) x =
 pub read-cut : (s : Bytes) (at end : ℕ) → Ends 10 s at end → length s ≤ end → (r : Seen) → r .word ≡ 0 → ReadAs s at r (split 10 (drop at s))
 read-cut s at end e h r z = rw (e .last h) z
 
-pub read-whole : (s : Bytes) (at end : ℕ) → Ends 10 s at end → end < length s → (r : Seen) → r .next ≡ end + 1
-    → SaysAs (take (end - 0) (drop 0 s)) r (lineSays (drop at (take (end - 0) (drop 0 s)))) → ReadAs s at r (split 10 (drop at s))
-read-whole s at end e h r n x = rw (e .more h) (go (split 10 (drop (end + 1) s)) refl (split-some 10 (drop (end + 1) s)))
+pub read-line : (s : Bytes) (at end : ℕ) → Ends 10 s at end → end < length s → (r : Seen) → r .next ≡ end + 1
+    → SaysAs (take end s) r (lineSays (drop at (take end s))) → ReadAs s at r (split 10 (drop at s))
+read-line s at end e h r n x = rw (e .more h) (go (split 10 (drop (end + 1) s)) refl (split-some 10 (drop (end + 1) s)))
   where
-    x′ : SaysAs (take end s) r (lineSays (drop at (take end s)))
-    x′ = rw (part-slice 0 end s) at x
-
     go : (ls : List Bytes) → split 10 (drop (end + 1) s) ≡ ls → 0 < length ls → ReadAs s at r (slice at end s ∷ ls)
     go [] d l = absurd (omega arith)
-    go (l′ ∷ ls) d l = (rw n (sym d), omega (arith, e .from), omega arith, wider s end (omega arith) r (lineSays (drop at (take end s))) x′)
+    go (l′ ∷ ls) d l = (rw n (sym d), omega (arith, e .from), omega arith, wider s end (omega arith) r (lineSays (drop at (take end s))) x)
+
+pub read-whole : (s : Bytes) (at end : ℕ) → Ends 10 s at end → end < length s → (r : Seen) → r .next ≡ end + 1
+    → SaysAs (take (end - 0) (drop 0 s)) r (lineSays (drop at (take (end - 0) (drop 0 s)))) → ReadAs s at r (split 10 (drop at s))
+read-whole s at end e h r n x = read-line s at end e h r n (rw (part-slice 0 end s) at x)

@@ -97,11 +97,11 @@ small? : Bytes → Bool
 small? [] = true
 small? (c ∷ cs) = ltb c 256 && small? cs
 
-both-l : (a b : Bool) → (a && b) ≡ true → a ≡ true
+pub both-l : (a b : Bool) → (a && b) ≡ true → a ≡ true
 both-l true b e = refl
 both-l false b e = e
 
-both-r : (a b : Bool) → (a && b) ≡ true → b ≡ true
+pub both-r : (a b : Bool) → (a && b) ≡ true → b ≡ true
 both-r true b e = e
 both-r false b e = absurd (let z : _≡_ {A = ℕ} 0 1 = cc in omega arith)
 

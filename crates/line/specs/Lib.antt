@@ -2,3 +2,4 @@ pub mod Arrays
 pub mod Rows
 pub mod Fields
 pub mod Line
+pub mod Quick

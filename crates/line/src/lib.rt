@@ -10,3 +10,4 @@ pub use line::read_line;
 pub use table::class_of;
 pub use table::group1_of;
 pub use table::group2_of;
+pub use table::is_leaf;

@@ -4,6 +4,7 @@ ghost use mathlib.Core.Path.{_≡_};
 ghost use lib.ListN.{getD};
 ghost use Rattle.line.specs.Arrays.{classes, shapes, slots, groups, seconds, fieldRows, kidRows};
 ghost use Rattle.line.specs.Rows.{numberIn};
+ghost use Rattle.line.specs.Quick.{rowIn, LeafAs};
 ghost use Rattle.semantics.specs.Sheet.{words};
 
 // Where the word may stand: the rank of its place; 14 for no word.
@@ -11,6 +12,16 @@ pub fn class_of(word: usize) -> usize
     ensures { λ r. ⌜ r ≡ getD classes word 0 ⌝ }
 {
     kids_row(word) % 16
+}
+
+// Whether nothing can stand below the word's line.
+pub fn is_leaf(word: usize) -> bool
+    ensures { λ r. ⌜ LeafAs word r ⌝ }
+{
+    if kids_row(word) < 16 {
+        return true;
+    }
+    false
 }
 
 // How many fields the word has, and their shapes, base 32, the first lowest.
@@ -102,6 +113,70 @@ pub fn word_of(code: u64) -> usize
         24343666 => 30, // str
         23686772 => 28, // int
         _ => 0,
+    }
+}
+
+// The same, and above it, base 64, its shapes and slots.
+pub fn row_of(code: u64) -> u64
+    ensures { λ r. ⌜ r ≡ rowIn code words ⌝ }
+{
+    match code {
+        94828 => 21897684, // rl
+        94832 => 1187795, // rp
+        95085 => 5124050, // sm
+        95084 => 21897681, // sl
+        95088 => 1187792, // sp
+        23290220 => 676475854, // cal
+        23356780 => 21111757, // del
+        24274285 => 659916, // rem
+        24339828 => 659915, // set
+        24473207 => 925642, // unw
+        24274292 => 21111753, // ret
+        24602996 => 21111304, // wit
+        24602725 => 4039, // whe
+        23946610 => 4038, // mer
+        23294565 => 4037, // cre
+        23945588 => 139204, // mat
+        23424612 => 4035, // end
+        5963870835 => 794561, // cyrs
+        354 => 51261378, // b
+        24274284 => 709644705102617, // rel
+        24014692 => 676344344, // nod
+        6180401780 => 680539095, // part
+        1582182855795 => 659926, // parts
+        23880034 => 1187797, // lab
+        23161961 => 1187831, // ali
+        24340591 => 38678518, // sho
+        23293805 => 1187829, // com
+        23293808 => 1187828, // cop
+        23949426 => 659955, // mpr
+        23883890 => 163987058, // lpr
+        24142704 => 138801, // pcp
+        23880560 => 5123632, // lcp
+        24142196 => 4079, // pat
+        92526 => 4078, // in
+        23688046 => 139245, // isn
+        24473185 => 139243, // una
+        24341609 => 400933, // sli
+        23684216 => 4068, // idx
+        23427177 => 4066, // exi
+        24473202 => 1187809, // unr
+        24142194 => 1187808, // par
+        5962296428 => 676475881, // call
+        5962298213 => 21373484, // case
+        23945584 => 659943, // map
+        23882099 => 659942, // lis
+        23815545 => 1187816, // key
+        24146543 => 1318863, // pro
+        23489652 => 1843165, // flt
+        5946437484 => 139227, // bool
+        6148156524 => 4058, // null
+        23226734 => 532458, // bin
+        6181515120 => 1187811, // prop
+        24535410 => 925663, // var
+        24343666 => 1187806, // str
+        23686772 => 1712092, // int
+        _ => 4032,
     }
 }
 

@@ -1,67 +1,30 @@
 use mathlib.Core.Path.{_≡_, refl, sym, _∙_, ap}
 use native.Mathlib.Omega.{arith}
-use Rattle.line.proofs.ReadLaws.{read-cut, read-whole}
+use Prim.Native.Nat.{_+_, _-_, _*_, _/_, _%_, _≤_, _<_}
+use lib.ListN.{length, getD, drop}
 use borrow.Author.Needs.{needs}
 use Rattle.line.proofs.line.read_line.Statement.{statement}
 use Rattle.line.proofs.line.read_line.Tie as tie
 use Rattle.line.proofs.line.read_line.Reads as reads
 use Rattle.line.proofs.line.read_line.Lts as lts
-use Rattle.line.proofs.field.no_fields.Reads as no-fields-reads
-use Rattle.line.proofs.line.head_of.Reads as head-of-reads
-use Rattle.line.proofs.line.read_words.Reads as read-words-reads
-use Rattle.text.proofs.line_end.Reads as line-end-reads
+use Rattle.line.proofs.line.quick.Reads as quick-reads
+use Rattle.line.proofs.line.read_any.Reads as read-any-reads
 
--- src/line.rt:150:9
-line-end-requires : tie.Need-line-end-requires
-line-end-requires c κs = search needs
+-- src/line.rt:312:9
+quick-requires : tie.Need-quick-requires
+quick-requires c κs = search needs
 
--- src/line.rt:152:34
-no-fields-requires : tie.Need-no-fields-requires
-no-fields-requires c κs = search needs
-
--- src/line.rt:152:9
-head-of-requires : tie.Need-head-of-requires
-head-of-requires c κs = search needs
-
--- src/line.rt:152:9
+-- src/line.rt:314:9
 returns : tie.Need-returns
-returns c = rw (c .head-of .ensures) (read-cut _ _ _ (c .before .before .before .line-end .ensures) (c .before .before .if1 .taken) _ refl)
+returns c = c .before .before .quick .ensures (omega arith)
 
--- src/line.rt:154:16
-sub-read-words : tie.Need-sub-read-words
-sub-read-words c = search needs
+-- src/line.rt:316:5
+read-any-requires : tie.Need-read-any-requires
+read-any-requires c κs = search needs
 
--- src/line.rt:154:16
-part-read-words-start : tie.Need-part-read-words-start
-part-read-words-start c = search needs
-
--- src/line.rt:154:16
-part-read-words-end : tie.Need-part-read-words-end
-part-read-words-end c = search needs
-
--- src/line.rt:154:36
-add-read-words : tie.Need-add-read-words
-add-read-words c = search needs
-
--- src/line.rt:154:5
-read-words-requires : tie.Need-read-words-requires
-read-words-requires c κs = search needs
-
--- src/line.rt:146:1
+-- src/line.rt:308:1
 returns-2 : tie.Need-returns-2
-returns-2 c = read-whole _ _ _ (c .before .before .before .line-end .ensures) (c .before .before .if1 .left) _ (c .read-words .ensures .0) (c .read-words .ensures .1)
+returns-2 c = search needs
 
 pub read-line-spec : {M : Type 1} → statement M
-read-line-spec =
-    tie.close
-    (tie.spec
-    line-end-requires
-    no-fields-requires
-    head-of-requires
-    returns
-    sub-read-words
-    part-read-words-start
-    part-read-words-end
-    add-read-words
-    read-words-requires
-    returns-2)
+read-line-spec = tie.close (tie.spec quick-requires returns read-any-requires returns-2)

@@ -9,7 +9,7 @@ use Rattle.line.proofs.line.word_code.Statement.{statement}
 use Rattle.line.proofs.line.word_code.Tie as tie
 use Rattle.line.proofs.line.word_code.Reads as reads
 use Rattle.line.proofs.line.word_code.Lts as lts
-use Rattle.line.proofs.line.wide.Reads as wide-reads
+use Rattle.line.proofs.field.wide.Reads as wide-reads
 
 abbrev Inv-loop : tie.InvT-loop
 Inv-loop word code₀ i₀ code i = (codeFrom 1 word ≡ codeFrom code (drop i word)) × (i ≤ length word)
@@ -39,7 +39,7 @@ wide-requires c κs = search needs
 
 -- src/line.rt:42:16
 add-code : tie.Need-add-code Inv-loop μ-loop
-add-code c = omega (arith, c .before .shared-slice-known2 .given (c .before .before .before .before .loop .i))
+add-code c = search needs
 
 -- src/line.rt:43:9
 add-i : tie.Need-add-i Inv-loop μ-loop
@@ -51,7 +51,7 @@ loop-less c = search needs
 
 -- src/line.rt:38:5
 loop-again : tie.Need-loop-again Inv-loop μ-loop
-loop-again c = (c .before .before .before .before .loop .inv .0 ∙ code-on _ _ _ (c .before .before .before .loop-test .taken) (c .before .before .if1 .left) ∙ rw (c .wide .ensures), omega arith)
+loop-again c = (c .before .before .before .before .loop .inv .0 ∙ code-on _ _ _ (c .before .before .before .loop-test .taken) (c .before .before .if1 .left) ∙ rw (c .wide .ensures .0), omega arith)
 
 -- src/line.rt:33:1
 returns-2 : tie.Need-returns-2 Inv-loop μ-loop

@@ -1,0 +1,40 @@
+use mathlib.Core.Path.{_≡_, refl, sym, _∙_, ap}
+use native.Mathlib.Omega.{arith}
+use Prim.Native.Nat.{_+_, _-_, _*_, _≤_, _<_}
+use lib.ListN.{length, getD, drop}
+use borrow.Author.Needs.{needs}
+use Rattle.line.proofs.line.closed.Statement.{statement}
+use Rattle.line.proofs.line.closed.Tie as tie
+use Rattle.line.proofs.line.closed.Reads as reads
+use Rattle.line.proofs.line.closed.Lts as lts
+use Rattle.line.proofs.line.head_of.Reads as head-of-reads
+use Rattle.line.proofs.line.unread.Reads as unread-reads
+
+-- src/line.rt:220:8
+shared-slice-read-if1 : tie.Need-shared-slice-read-if1
+shared-slice-read-if1 c = search needs
+
+-- src/line.rt:221:33
+add-head-of : tie.Need-add-head-of
+add-head-of c = search needs
+
+-- src/line.rt:221:9
+head-of-requires : tie.Need-head-of-requires
+head-of-requires c κs = search needs
+
+-- src/line.rt:221:9
+returns : tie.Need-returns
+returns c = λ z. (c .before .if1 .taken, c .head-of .ensures)
+
+-- src/line.rt:223:5
+unread-requires : tie.Need-unread-requires
+unread-requires c κs = search needs
+
+-- src/line.rt:216:1
+returns-2 : tie.Need-returns-2
+returns-2 c = λ z. absurd (omega arith)
+
+pub closed-spec : {M : Type 1} → statement M
+closed-spec =
+    tie.close
+    (tie.spec shared-slice-read-if1 add-head-of head-of-requires returns unread-requires returns-2)
