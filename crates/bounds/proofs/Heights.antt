@@ -7,7 +7,6 @@ use native.Mathlib.Omega.{arith}
 use lib.Dec.{eqb, ltb}
 use lib.ListN.{length, getD, take, drop, length-append}
 use borrow.Author.Tests.{eqb-true, eqb-false, ltb-false}
-use Rattle.semantics.specs.Limits.{depthLimit}
 use Rattle.semantics.specs.Sheet.{Word, Rule, silent, entering, typed, Place, AtExpression, Role, plain, condition, answer, inner, Head, rank, place, row, rule, roles, arity, bad, ok, Want, first, clauses, bindings, at, fits, beyond, deeper, wanted, under}
 use Rattle.semantics.specs.Walk.{Env, step, walk}
 use Rattle.semantics.proofs.Words.{every}
@@ -41,9 +40,9 @@ rise-place v k =
 
 -- the height that a want allows
 abbrev pub Within : Want → ℕ → Type 0
-Within first k = Unit {0}
-Within clauses k = Unit {0}
-Within (bindings v) k = Unit {0}
+Within (first d) k = Unit {0}
+Within (clauses d) k = Unit {0}
+Within (bindings v d) k = Unit {0}
 Within (at q e) k = k ≤ e
 
 some-left : (e : ℕ) → (e ≡ 0 → ⊥) → 1 ≤ e

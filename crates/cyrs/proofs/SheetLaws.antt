@@ -9,7 +9,7 @@ use lib.Dec.{eqb, ltb}
 use lib.ListN.{length, replicate}
 use lib.Seq.{sets}
 use borrow.Author.Tests.{eq-eqb, ne-eqb, lt-ltb, le-ltb, ltb-false}
-use Rattle.semantics.specs.Limits.{sheetLimit, workSize}
+use Rattle.semantics.specs.Limits.{sheetLimit, depthLimit, workSize}
 use Rattle.semantics.specs.Bytes.{Bytes}
 use Rattle.semantics.specs.Sheet.{Head, Sheet, refused, heads, sheet}
 use Rattle.semantics.specs.Walk.{Top, envOf, walk, results, allTests, typing}
@@ -94,13 +94,13 @@ types-cleared U work out out′ c n n0 e =
       zeroed = λ _. ap (λ (x : Settled). x .out) e;
     }
 
-pub types-refused : (s work out : Bytes) → (length s ≤ sheetLimit) × (length work ≡ workSize) → (o : Outline) → OutlineAs s o → (out′ : Bytes) (r : Call)
+pub types-refused : (s work out : Bytes) → (length s ≤ sheetLimit) × (length work ≡ workSize) → (o : Outline) → OutlineAs depthLimit s o → (out′ : Bytes) (r : Call)
     → (o .why ≡ 0 → ⊥) → r ≡ told (o .why) (o .line .0) → Types (sheetCall s work out) work out out′ r
 unfolding outcome judged settled
 types-refused s work out ask o outlined out′ r h e =
     rw e (types-cleared (sheetCall s work out) work out out′ (o .why) (o .line .0) h (call-outcome s work out (ask .0) (ask .1) ∙ go outlined))
   where
-    go : OutlineAs s o → settled (outcome s) work out ≡ cleared (o .why) (o .line .0) work out
+    go : OutlineAs depthLimit s o → settled (outcome s) work out ≡ cleared (o .why) (o .line .0) work out
     go (is-refused _ e) = ap (λ (x : Sheet). settled (judged x) work out) e
     go (is-laid e _) = absurd (h e)
 
@@ -116,7 +116,7 @@ bindsOf o = record { from = o .from; to = o .to }
 abbrev curOf : Outline → Cur
 curOf o = record { at = o .to; line = o .line }
 
-module _ (s : Bytes) (o : Outline) (l : Laid s o) where
+module _ (s : Bytes) (o : Outline) (l : Laid depthLimit s o) where
   abbrev the-heads : List Head
   the-heads = l .head ∷ (l .binds ++ l .rest)
 
@@ -124,15 +124,15 @@ module _ (s : Bytes) (o : Outline) (l : Laid s o) where
   env-as =
       record {
         binds = record { heads = l .binds; lines = l .bound; top = l .top; ascending = l .ascending; inside = omega (arith, lines-on (l .below)) };
-        same = kind-type s o l;
+        same = kind-type depthLimit s o l;
       }
 
-  at-clauses : length s ≤ sheetLimit → StatementAt s (curOf o)
+  at-clauses : length s ≤ sheetLimit → StatementAt depthLimit s (curOf o)
   at-clauses h =
       record {
         rest = l .rest;
         lines = l .below;
-        standing = stand-start s o l;
+        standing = stand-start depthLimit s o l;
         above = omega (arith, l .line, l .first .on, lines-on (l .bound));
         room = omega arith;
       }
@@ -147,7 +147,7 @@ module _ (s : Bytes) (o : Outline) (l : Laid s o) where
   outcome-is : outcome s ≡ by-clauses the-test the-tops
   unfolding outcome judged the-test the-tops
   outcome-is =
-      let x = laid-out s o l in
+      let x = laid-out depthLimit s o l in
       let n = sym (l .line) in
       ap judged (l .same)
       ∙ limited-is (firstLarge (allTests (results the-heads))) the-heads
@@ -155,19 +155,19 @@ module _ (s : Bytes) (o : Outline) (l : Laid s o) where
       (ap firstLarge (x .1) ∙ ap (λ (k : ℕ). firstLarge (allTests (walk (envOf the-heads) k (l .rest)))) n)
       (x .0 ∙ ap (λ (k : ℕ). outTops (envOf the-heads) k (l .rest)) n)
 
-accepted-laid : (s : Bytes) (o : Outline) → OutlineAs s o → o .why ≡ 0 → Laid s o
+accepted-laid : (s : Bytes) (o : Outline) → OutlineAs depthLimit s o → o .why ≡ 0 → Laid depthLimit s o
 accepted-laid s o (is-refused p _) z = absurd (omega arith)
 accepted-laid s o (is-laid _ l) z = l
 
-pub statement-ask : (s work : Bytes) → (length s ≤ sheetLimit) × (length work ≡ workSize) → (o : Outline) → OutlineAs s o → o .why ≡ 0
-    → StatementAsk s (bindsOf o) (curOf o) work
-statement-ask s work ask o outlined z =
+pub statement-ask : (s work : Bytes) → (length s ≤ sheetLimit) × (length work ≡ workSize) → (o : Outline) → OutlineAs depthLimit s o → o .why ≡ 0
+    → (b : Binds) → b ≡ bindsOf o → StatementAsk depthLimit s b (curOf o) work
+statement-ask s work ask o outlined z b e =
     let l = accepted-laid s o outlined z in
-    record { at = at-clauses s o l (ask .0); env = envOf (the-heads s o l); bound = env-as s o l; room = omega (arith, ask .1) }
+    rw e (record { at = at-clauses s o l (ask .0); env = envOf (the-heads s o l); bound = env-as s o l; room = omega (arith, ask .1) })
 
-module _ (s work out : Bytes) (ask : (length s ≤ sheetLimit) × (length work ≡ workSize)) (o : Outline) (outlined : OutlineAs s o) (zero : o .why ≡ 0)
-    (work′ out′ : Bytes) (m : Report) (p : Reported s (bindsOf o) (curOf o) work work′ out out′ m) where
-  laid : Laid s o
+module _ (s work out : Bytes) (ask : (length s ≤ sheetLimit) × (length work ≡ workSize)) (o : Outline) (outlined : OutlineAs depthLimit s o) (zero : o .why ≡ 0)
+    (b : Binds) (built : b ≡ bindsOf o) (work′ out′ : Bytes) (m : Report) (p : Reported depthLimit s b (curOf o) work work′ out out′ m) where
+  laid : Laid depthLimit s o
   laid = accepted-laid s o outlined zero
 
   test : Option ℕ
@@ -178,7 +178,7 @@ module _ (s work out : Bytes) (ask : (length s ≤ sheetLimit) × (length work �
 
   made-as : MadeAs test tops out out′ m
   unfolding test tops the-test the-tops at-clauses
-  made-as = p .made (at-clauses s o laid (ask .0)) (envOf (the-heads s o laid)) (env-as s o laid)
+  made-as = p .made (at-clauses s o laid (ask .0)) (envOf (the-heads s o laid)) (subst (λ (x : Binds). EnvAs s x (envOf (the-heads s o laid))) (sym built) (env-as s o laid))
 
   by-test : sheetCall s work out ≡ settled (by-clauses test tops) work out
   unfolding test tops
@@ -297,7 +297,7 @@ call-inside s work out = subst (Fits out) (sym (call-chosen s work out)) (by-len
 
     by-lengths : (c d : Bool) → Fits out (chosen s work out c d)
     by-lengths true d = λ z. absurd (omega arith)
-    by-lengths false true = by-sheet (sheet s) (sheet-fine s)
+    by-lengths false true = by-sheet (sheet depthLimit s) (sheet-fine depthLimit s)
     by-lengths false false = λ z. absurd (omega arith)
 
 -- a report that is returned lies inside the output

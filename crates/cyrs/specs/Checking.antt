@@ -3,7 +3,7 @@ use mathlib.Core.Bool.{true, false}
 use Prim.Native.Nat.{ℕ}
 use lib.ListN.{length}
 use lib.Dec.{ltb}
-use Rattle.semantics.specs.Limits.{sheetLimit}
+use Rattle.semantics.specs.Limits.{sheetLimit, depthLimit}
 use Rattle.semantics.specs.Bytes.{Bytes}
 use Rattle.semantics.specs.Sheet.{Sheet, refused, heads, sheet}
 
@@ -20,4 +20,4 @@ checked (refused c n) = checkedBy c n
 checked (heads hs) = checkedBy 0 0
 
 unfoldable pub checkCall : Bytes → CheckedAs
-checkCall s = elim (ltb sheetLimit (length s)) [ true ↦ checkedBy 1 0 | false ↦ checked (sheet s) ]
+checkCall s = elim (ltb sheetLimit (length s)) [ true ↦ checkedBy 1 0 | false ↦ checked (sheet depthLimit s) ]

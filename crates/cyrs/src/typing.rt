@@ -7,6 +7,7 @@ ghost use Rattle.semantics.specs.Calls.{sheetCall};
 ghost use Rattle.cyrs.specs.Call.{settledBy};
 ghost use Rattle.cyrs.specs.Typed.{Types};
 use crate::unifying::Call;
+use hir::Outline;
 use infer::Cur;
 use infer::Env;
 use infer::Report;
@@ -22,6 +23,16 @@ fn refusal(number: u32, place: u64) -> Call
     }
 }
 
+// What the walk is handed of the sheet beside its lines.
+fn env_of(o: Outline) -> Env
+    ensures { λ r. ⌜ r ≡ record { from = o .from; to = o .to } ⌝ }
+{
+    Env {
+        from: o.from,
+        to: o.to,
+    }
+}
+
 // The whole sheet read, and then its clauses typed.
 fn type_sheet(sheet: &[u8], work: &mut [u8], out: &mut [u8]) -> Call
     requires { ⌜ (length (now sheet) ≤ sheetLimit) × (length (now work) ≡ workSize) ⌝ }
@@ -33,12 +44,8 @@ fn type_sheet(sheet: &[u8], work: &mut [u8], out: &mut [u8]) -> Call
     if o.why != 0 {
         return refusal(o.why, line.0 as u64);
     }
-    let b = Env {
-        from: o.from,
-        to: o.to,
-    };
     let c = Cur { at: o.to, line };
-    let r = infer::check_statement(b, sheet, c, work, out);
+    let r = infer::check_statement(env_of(o), sheet, c, semantics::DEPTH_LIMIT, work, out);
     match r {
         Report::Made(n) => {
             if n > out.len() {

@@ -248,18 +248,18 @@ start-on s p mid n e i l m d = go (decLt i p)
 
 -- ## The definition's bindings
 
-fits-two : (q : ℕ) → fits clauses q ≡ true → 2 ≤ q
+fits-two : (d q : ℕ) → fits (clauses d) q ≡ true → 2 ≤ q
 unfolding fits
-fits-two q e = go (leb 2 q) refl e
+fits-two d q e = go (leb 2 q) refl e
   where
     go : (b : Bool) → leb 2 q ≡ b → (b && leb q 3) ≡ true → 2 ≤ q
     go true d f = leb-true 2 q d
     go false d f = absurd (let z : _≡_ {A = ℕ} 0 1 = cc in omega arith)
 
-rest-none : {hs : List Head} → Met (clauses ∷ []) hs [] → bound hs ≡ []
+rest-none : {d : ℕ} {hs : List Head} → Met (clauses d ∷ []) hs [] → bound hs ≡ []
 unfolding bound boundBy
 rest-none (meets {h = h} f g x) =
-    let l = fits-two (rank (place h)) f in
+    let l = fits-two _ (rank (place h)) f in
     rw (ne-eqb (rank (place h)) 0 (λ e. omega arith), ne-eqb (rank (place h)) 1 (λ e. omega arith), boundBy)
 
 bound-first : (h : Head) (hs : List Head) → rank (place h) ≡ 0 → bound (h ∷ hs) ≡ bound hs
@@ -295,8 +295,8 @@ bound-binds {s = s} {p = p} (a-line {q = q} {h = h} {hs = hs} a x) (ascends o l 
     ap (varTypeIn v) (bound-one h (hs ++ rest) (b .0) o (b .1)) ∙ type-step h hs v (b .0) (bound (hs ++ rest)) (var-some h (b .0) (b .1)) (bound-binds x y rest e v)
 
 -- what a variable's kind says is its type
-pub kind-type : (s : Bytes) (r : Outline) (l : Laid s r) (v : ℕ) → varTypeIn v (bound (l .head ∷ (l .binds ++ l .rest))) ≡ kindType (kindOf v (l .binds))
-kind-type s r l v = ap (varTypeIn v) (bound-first (l .head) (l .binds ++ l .rest) (l .zero)) ∙ bound-binds (l .bound) (l .ascending) (l .rest) (rest-none (l .met)) v
+pub kind-type : (d : ℕ) (s : Bytes) (r : Outline) (l : Laid d s r) (v : ℕ) → varTypeIn v (bound (l .head ∷ (l .binds ++ l .rest))) ≡ kindType (kindOf v (l .binds))
+kind-type d s r l v = ap (varTypeIn v) (bound-first (l .head) (l .binds ++ l .rest) (l .zero)) ∙ bound-binds (l .bound) (l .ascending) (l .rest) (rest-none (l .met)) v
 
-pub laid-binds : (s : Bytes) (r : Outline) → Laid s r → BindsAt s (r .from) (r .to)
-laid-binds s r l = record { heads = l .binds; lines = l .bound; top = l .top; ascending = l .ascending; inside = omega (arith, lines-up (l .below)) }
+pub laid-binds : (d : ℕ) (s : Bytes) (r : Outline) → Laid d s r → BindsAt s (r .from) (r .to)
+laid-binds d s r l = record { heads = l .binds; lines = l .bound; top = l .top; ascending = l .ascending; inside = omega (arith, lines-up (l .below)) }

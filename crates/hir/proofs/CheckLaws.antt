@@ -98,9 +98,9 @@ module _ (s : Bytes) (h : Seen) (i : Head) (is : HeadIs s h i) (k : Kids) (a : K
 positive : (x : ℕ) → (x ≡ 0 → ⊥) → 0 < x
 positive x h = omega arith
 
-pub after-none : (h : Head) → 3 < rank (place h) → after h ≡ []
+pub after-none : (d : ℕ) (h : Head) → 3 < rank (place h) → after d h ≡ []
 unfolding after
-after-none h l = rw (ne-eqb (rank (place h)) 0 (λ e. omega arith), ne-eqb (rank (place h)) 1 (λ e. omega arith), ne-eqb (rank (place h)) 2 (λ e. omega arith), after)
+after-none d h l = rw (ne-eqb (rank (place h)) 0 (λ e. omega arith), ne-eqb (rank (place h)) 1 (λ e. omega arith), ne-eqb (rank (place h)) 2 (λ e. omega arith), after)
 
 -- the line is fine there, and its own lines come next
 pub record KidGo (s : Bytes) (p : ℕ) (k : Seen) (c depth d n : ℕ) (ws : List Want) (ls : List Bytes) : Type 0 where
@@ -123,7 +123,7 @@ module _ (s : Bytes) (p : ℕ) (k : Seen) (c depth d : ℕ) (n : ℕ) (ws : List
   under-kid : (h : Head) → HeadIs s k h → rank (place h) ≡ c → 3 < c → under w h ≡ kidWants (k .word) (k .count) (k .flag) (pickC (eqb c 13) (d - 1) d)
   unfolding under
   under-kid h i e up =
-      rw (after-none h (omega arith), append-nil (map (wanted (deeper w)) (roles h)), kids-of s k h (deeper w) i, rank-place c small)
+      rw (after-none (deeper w) h (omega arith), append-nil (map (wanted (deeper w)) (roles h)), kids-of s k h (deeper w) i, rank-place c small)
       (ap (kidWants (k .word) (k .count) (k .flag)) (same (eqb c 13)))
     where
       same : (b : Bool) → cond b (d - 1) d ≡ pickC b (d - 1) d
@@ -337,12 +337,12 @@ module _ (s : Bytes) (h : Seen) (line depth : ℕ) (ask : KidsAsk s h line depth
       step-room = omega (arith, ask .room, inv .above, inv .inside)
 
       -- nothing can stand below the line
-      pub step-leaf : (m : ℕ) → m ≡ l + 1 → (getD groups (k .word) 0 ≡ 0) × (getD seconds (k .word) 0 ≡ 0) → KidsInv s ks (25 - depth) n (h .next) line (k .next) m (j + 1)
+      pub step-leaf : (m : ℕ) → m ≡ l + 1 → (getD groups (k .word) 0 ≡ 0) × (getD seconds (k .word) 0 ≡ 0) → KidsInv s ks depth n (h .next) line (k .next) m (j + 1)
       step-leaf m em none =
-          kids-on s ks (25 - depth) depth n (h .next) line p l j inv more whole c ec k r (un .small) go (k .next) m
+          kids-on s ks depth depth n (h .next) line p l j inv more whole c ec k r (un .small) go (k .next) m
           (record {
             heads = [];
-            same = rw (no-kids (k .word) (k .count) (k .flag) (pickC (eqb c 13) (suc (25 - depth)) (25 - depth)) (none .0) (none .1))
+            same = rw (no-kids (k .word) (k .count) (k .flag) (pickC (eqb c 13) (depth - 1) depth) (none .0) (none .1))
                 (run-none (split 10 (drop (k .next) s)) (suc l) ∙ ap (λ (x : ℕ). passed [] x (split 10 (drop (k .next) s))) (sym (em ∙ add-one l)));
             on = omega arith;
             inside = go .inside;

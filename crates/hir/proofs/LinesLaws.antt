@@ -89,9 +89,9 @@ said-word l v h e = let f = said-fill l v h e in fill-word v (f .0) h (f .1)
 
 beyond-same : (w : Want) (i h : Head) → beyond w i ≡ ok h → i ≡ h
 unfolding beyond
-beyond-same first i h e = cc
-beyond-same clauses i h e = cc
-beyond-same (bindings v) i h e = go (eqb (rank (place i)) 1 && ltb (variableOf i) v) e
+beyond-same (first d) i h e = cc
+beyond-same (clauses d) i h e = cc
+beyond-same (bindings v d) i h e = go (eqb (rank (place i)) 1 && ltb (variableOf i) v) e
   where
     go : (b : Bool) → elim b [ true ↦ bad 3 | false ↦ ok i ] ≡ ok h → i ≡ h
     go true d = absurd (no-ok 3 h d)
@@ -212,11 +212,11 @@ finish-heads (passed ks n ls) hs e =
     (n, cc (l .0, a .2 ∙ ap (λ (x : List Head). ks ++ x) (l .1) ∙ append-nil ks))
 
 -- an accepted sheet: its heads stand in it from the start to the end, and meet what is wanted
-pub sheet-lines : (s : Bytes) (hs : List Head) → sheet s ≡ heads hs → Lines s 0 hs (length s) × Met (first ∷ []) hs []
+pub sheet-lines : (d : ℕ) (s : Bytes) (hs : List Head) → sheet d s ≡ heads hs → Lines s 0 hs (length s) × Met (first d ∷ []) hs []
 unfolding sheet split
-sheet-lines s hs e =
-    let f = finish-heads (run (first ∷ []) 1 (split 10 s)) hs (sym (check-run (split 10 s) (first ∷ []) 1) ∙ e) in
-    let p = passed-lines (split 10 s) s 0 (first ∷ []) 1 hs (f .0) ([] ∷ []) (omega arith) refl (f .1) in
+sheet-lines d s hs e =
+    let f = finish-heads (run (first d ∷ []) 1 (split 10 s)) hs (sym (check-run (split 10 s) (first d ∷ []) 1) ∙ e) in
+    let p = passed-lines (split 10 s) s 0 (first d ∷ []) 1 hs (f .0) ([] ∷ []) (omega arith) refl (f .1) in
     let z : drop (p .end) s ≡ [] = split-inj 10 (drop (p .end) s) [] (p .left) in
     let q : p .end ≡ length s = omega (arith, p .inside, length-drop (p .end) s, ap length z) in
     (rw q at (p .lines), p .met)
@@ -259,9 +259,9 @@ met-split a b hs ks m = met-parts m a b refl
 
 -- a want inside a clause
 abbrev pub Inner : Want → Type 0
-Inner first = ⊥
-Inner clauses = ⊥
-Inner (bindings v) = ⊥
+Inner (first d) = ⊥
+Inner (clauses d) = ⊥
+Inner (bindings v d) = ⊥
 Inner (at q d) = 3 < rank q
 
 pub data AllIn : List Want → Type 0 where
@@ -305,7 +305,7 @@ inner-rank (at q d) h i e = omega (arith, eqb-true (rank (place h)) (rank q) e)
 pub inner-under : (w : Want) (h : Head) → Inner w → fits w (rank (place h)) ≡ true → (under w h ≡ map (wanted (deeper w)) (roles h)) × AllIn (under w h)
 unfolding under roles
 inner-under w h i e =
-    let u : under w h ≡ map (wanted (deeper w)) (roles h) = ap (λ (x : List Want). map (wanted (deeper w)) (roles h) ++ x) (after-none h (inner-rank w h i e)) ∙ append-nil (map (wanted (deeper w)) (roles h)) in
+    let u : under w h ≡ map (wanted (deeper w)) (roles h) = ap (λ (x : List Want). map (wanted (deeper w)) (roles h) ++ x) (after-none (deeper w) h (inner-rank w h i e)) ∙ append-nil (map (wanted (deeper w)) (roles h)) in
     (u, rw u (wants-in (deeper w) (roles-in (h .word) (h .nums))))
 
 length-map′ : (f : Role → Want) (ps : List Role) → length (map f ps) ≡ length ps

@@ -50,9 +50,9 @@ rank-place (suc (suc (suc (suc (suc (suc (suc (suc (suc (suc (suc (suc (suc n)))
 -- no want takes a line that is no word
 fits-none : (w : Want) → fits w 14 ≡ false
 unfolding fits
-fits-none first = refl
-fits-none clauses = refl
-fits-none (bindings v) = refl
+fits-none (first d) = refl
+fits-none (clauses d) = refl
+fits-none (bindings v d) = refl
 fits-none (at q d) = ne-eqb 14 (rank q) (λ e. omega (arith, rank-small q))
 
 pub class-none : (k : Seen) → k .word ≡ 0 → classOf k ≡ 14

@@ -63,10 +63,10 @@ pub record TopAsk (s : Bytes) (at line : ℕ) : Type 0 where
   pub inside : at ≤ length s
   pub above : line ≤ at + 1
 
--- the bindings from line n on are read, up to a line that is none; or refused
+-- the bindings from line n on are read, up to a line that is none; or refused; however many levels are left for what follows
 pub record BoundAs (s : Bytes) (p n next line : ℕ) : Type 0 where
   pub heads : List Head
-  pub same : run (bindings 0 ∷ []) n (split 10 (drop p s)) ≡ behind heads (run (clauses ∷ []) line (split 10 (drop next s)))
+  pub same : (d : ℕ) → run (bindings 0 d ∷ []) n (split 10 (drop p s)) ≡ behind heads (run (clauses d ∷ []) line (split 10 (drop next s)))
   pub lines : Lines s p heads next
   pub top : ℕ
   pub ascending : Ascends 0 heads top
@@ -76,7 +76,7 @@ pub record BoundAs (s : Bytes) (p n next line : ℕ) : Type 0 where
 
 abbrev pub BindsAs : Bytes → ℕ → ℕ → Check → Type 0
 BindsAs s p n (Fine next line) = BoundAs s p n next (line .0)
-BindsAs s p n (Refused why line) = run (bindings 0 ∷ []) n (split 10 (drop p s)) ≡ stopped why (line .0)
+BindsAs s p n (Refused why line) = (d : ℕ) → run (bindings 0 d ∷ []) n (split 10 (drop p s)) ≡ stopped why (line .0)
 
 abbrev pub pickE : Bool → Check → Check → Check
 pickE true a b = a
@@ -87,14 +87,14 @@ abbrev pub endOf : Seen → HirId → ℕ → Check
 endOf h line len = pickE (eqb (h .why) 0) (pickE (eqb (h .next) len) (Fine len line) (Refused 3 (record { 0 = line .0 + 1 }))) (Refused (h .why) line)
 
 -- the clauses and the `end` line, and nothing behind it
-abbrev pub ClausesAs : Bytes → ℕ → ℕ → Check → Type 0
-ClausesAs s p n (Fine next line) = (hs : List Head) × (check (clauses ∷ []) n (split 10 (drop p s)) ≡ heads hs)
-ClausesAs s p n (Refused why line) = check (clauses ∷ []) n (split 10 (drop p s)) ≡ refused why (line .0)
+abbrev pub ClausesAs : ℕ → Bytes → ℕ → ℕ → Check → Type 0
+ClausesAs d s p n (Fine next line) = (hs : List Head) × (check (clauses d ∷ []) n (split 10 (drop p s)) ≡ heads hs)
+ClausesAs d s p n (Refused why line) = check (clauses d ∷ []) n (split 10 (drop p s)) ≡ refused why (line .0)
 
 -- ## The whole sheet
 
 -- the lines behind the first are read: the bindings up to `to`, then the clauses and the end, met
-pub record RestLaid (s : Bytes) (from : ℕ) (r : Outline) (q : Sheet) : Type 0 where
+pub record RestLaid (d : ℕ) (s : Bytes) (from : ℕ) (r : Outline) (q : Sheet) : Type 0 where
   pub start : r .from ≡ from
   pub binds : List Head
   pub rest : List Head
@@ -103,30 +103,30 @@ pub record RestLaid (s : Bytes) (from : ℕ) (r : Outline) (q : Sheet) : Type 0 
   pub top : ℕ
   pub ascending : Ascends 0 binds top
   pub below : Lines s (r .to) rest (length s)
-  pub met : Met (clauses ∷ []) rest []
+  pub met : Met (clauses d ∷ []) rest []
   pub line : r .line .0 ≡ 2 + length binds
 
-pub data RestAs (s : Bytes) (from : ℕ) (r : Outline) (q : Sheet) : Type 0 where
-  rest-refused : q ≡ refused (r .why) (r .line .0) → RestAs s from r q
-  rest-laid : r .why ≡ 0 → RestLaid s from r q → RestAs s from r q
+pub data RestAs (d : ℕ) (s : Bytes) (from : ℕ) (r : Outline) (q : Sheet) : Type 0 where
+  rest-refused : q ≡ refused (r .why) (r .line .0) → RestAs d s from r q
+  rest-laid : r .why ≡ 0 → RestLaid d s from r q → RestAs d s from r q
 
 -- an accepted sheet: its first line up to `from`, its bindings up to `to`, and from there on its clauses and its end, the first of them
 -- on line `line`
-pub record Laid (s : Bytes) (r : Outline) : Type 0 where
+pub record Laid (d : ℕ) (s : Bytes) (r : Outline) : Type 0 where
   pub head : Head
   pub binds : List Head
   pub rest : List Head
-  pub same : sheet s ≡ heads (head ∷ (binds ++ rest))
+  pub same : sheet d s ≡ heads (head ∷ (binds ++ rest))
   pub first : LineAt s 0 head (r .from)
   pub zero : rank (place head) ≡ 0
   pub bound : Lines s (r .from) binds (r .to)
   pub top : ℕ
   pub ascending : Ascends 0 binds top
   pub below : Lines s (r .to) rest (length s)
-  pub met : Met (clauses ∷ []) rest []
+  pub met : Met (clauses d ∷ []) rest []
   pub line : r .line .0 ≡ 2 + length binds
 
--- the sheet is refused for `why` at line `line`; or, with `why` 0, accepted
-pub data OutlineAs (s : Bytes) (r : Outline) : Type 0 where
-  is-refused : 0 < r .why → sheet s ≡ refused (r .why) (r .line .0) → OutlineAs s r
-  is-laid : r .why ≡ 0 → Laid s r → OutlineAs s r
+-- the sheet, whose expressions may stand d levels deep, is refused for `why` at line `line`; or, with `why` 0, accepted
+pub data OutlineAs (d : ℕ) (s : Bytes) (r : Outline) : Type 0 where
+  is-refused : 0 < r .why → sheet d s ≡ refused (r .why) (r .line .0) → OutlineAs d s r
+  is-laid : r .why ≡ 0 → Laid d s r → OutlineAs d s r

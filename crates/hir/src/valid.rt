@@ -9,7 +9,6 @@ ghost use Rattle.hir.specs.Run.{run};
 ghost use Rattle.hir.specs.Kids.{groupSize, kidWants};
 ghost use Rattle.hir.specs.Check.{pickC, verdictOf, KidsAs, KidsAsk, ChecksAs, TopAsk, BindsAs, ClausesAs, endOf, RestAs, OutlineAs};
 ghost use mathlib.Core.List.{[], _∷_};
-ghost use Rattle.semantics.specs.Limits.{depthLimit};
 ghost use Rattle.semantics.specs.Sheet.{bindings, check};
 use line::Head;
 use line::HirId;
@@ -187,8 +186,8 @@ fn check_end(h: Head, line: HirId, len: usize) -> Check
 
 // The clauses from `at` on, and the `end` line.
 fn check_clauses(sheet: &[u8], at: usize, line: HirId, depth: usize) -> Check
-    requires { ⌜ TopAsk (now sheet) at (line .0) × (depth ≡ 24) ⌝ }
-    ensures { λ r. ⌜ ClausesAs (now (sheet .entry)) at (line .0) r ⌝ }
+    requires { ⌜ TopAsk (now sheet) at (line .0) ⌝ }
+    ensures { λ r. ⌜ ClausesAs depth (now (sheet .entry)) at (line .0) r ⌝ }
 {
     let mut p = at;
     let mut l = line;
@@ -235,8 +234,8 @@ fn refused(why: u32, line: HirId) -> Outline
 
 // The sheet behind its first line.
 fn check_rest(sheet: &[u8], from: usize, depth: usize) -> Outline
-    requires { ⌜ TopAsk (now sheet) from 2 × (depth ≡ 24) ⌝ }
-    ensures { λ r. ⌜ RestAs (now (sheet .entry)) from r (check (bindings 0 ∷ []) 2 (split 10 (drop from (now (sheet .entry))))) ⌝ }
+    requires { ⌜ TopAsk (now sheet) from 2 ⌝ }
+    ensures { λ r. ⌜ RestAs depth (now (sheet .entry)) from r (check (bindings 0 depth ∷ []) 2 (split 10 (drop from (now (sheet .entry))))) ⌝ }
 {
     match check_binds(sheet, from, HirId(2)) {
         Check::Refused { why, line } => refused(why, line),
@@ -254,10 +253,10 @@ fn check_rest(sheet: &[u8], from: usize, depth: usize) -> Outline
     }
 }
 
-// The whole sheet.
+// The whole sheet, whose expressions may stand at most `depth` levels deep.
 pub fn check_sheet(sheet: &[u8], depth: usize) -> Outline
-    requires { ⌜ (length (now sheet) < 4294967294) × (depth ≡ depthLimit) ⌝ }
-    ensures { λ r. ⌜ OutlineAs (now (sheet .entry)) r ⌝ }
+    requires { ⌜ length (now sheet) < 4294967294 ⌝ }
+    ensures { λ r. ⌜ OutlineAs depth (now (sheet .entry)) r ⌝ }
 {
     let h = read_line(sheet, 0);
     let why = verdict(h, 0, depth);

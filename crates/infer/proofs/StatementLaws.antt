@@ -115,10 +115,10 @@ halts r work′ out out′ y B i x = go (firstLarge (r .tests)) refl x
 -- ## Before a line
 
 -- the heads that are left, the top expressions so far, and what they came to
-pub record Mid (s : Bytes) (env : Env) (n : ℕ) (rest : List Head) (out₀ out : Bytes) (c : Cur) (y : Tally) (types : ℕ) : Type 0 where
+pub record Mid (levels : ℕ) (s : Bytes) (env : Env) (n : ℕ) (rest : List Head) (out₀ out : Bytes) (c : Cur) (y : Tally) (types : ℕ) : Type 0 where
   pub hs : List Head
   pub lines : Lines s (c .at) hs (length s)
-  pub standing : Standing hs
+  pub standing : Standing levels hs
   pub above : c .line .0 ≤ c .at + 1
   pub room : length s < 65536
   pub ts : List Top
@@ -132,9 +132,9 @@ pub record Mid (s : Bytes) (env : Env) (n : ℕ) (rest : List Head) (out₀ out 
   pub rare : y .faults + 2048 * length hs ≤ 2048 * 65536
 
 -- before the first
-pub mid-start : {s : Bytes} {c : Cur} (a : StatementAt s c) (env : Env) (out : Bytes) → Mid s env (c .line .0) (a .rest) out out c (record { fill = 0; faults = 0 }) 0
+pub mid-start : {levels : ℕ} {s : Bytes} {c : Cur} (a : StatementAt levels s c) (env : Env) (out : Bytes) → Mid levels s env (c .line .0) (a .rest) out out c (record { fill = 0; faults = 0 }) 0
 unfolding topsText faultCount
-mid-start {s} {c} a env out =
+mid-start {s = s} {c = c} a env out =
     let l : length (a .rest) ≤ 65536 = omega (arith, lines-few (a .lines), a .room) in
     record {
       hs = a .rest;
@@ -153,7 +153,7 @@ mid-start {s} {c} a env out =
       rare = omega arith;
     }
 
-module _ {s : Bytes} {env : Env} {n : ℕ} {rest : List Head} {out₀ out : Bytes} {c : Cur} {y : Tally} {types : ℕ} (m : Mid s env n rest out₀ out c y types) where
+module _ {levels : ℕ} {s : Bytes} {env : Env} {n : ℕ} {rest : List Head} {out₀ out : Bytes} {c : Cur} {y : Tally} {types : ℕ} (m : Mid levels s env n rest out₀ out c y types) where
   pub mid-inside : c .at < length s
   mid-inside = omega (arith, lines-few (m .lines), stand-some (m .hs) (m .standing))
 
@@ -168,13 +168,13 @@ module _ {s : Bytes} {env : Env} {n : ℕ} {rest : List Head} {out₀ out : Byte
 
 -- ## A line that was read
 
-module _ {s : Bytes} {env : Env} {n : ℕ} {rest : List Head} {out₀ out : Bytes} {c : Cur} {y : Tally} {types : ℕ} (m : Mid s env n rest out₀ out c y types)
+module _ {levels : ℕ} {s : Bytes} {env : Env} {n : ℕ} {rest : List Head} {out₀ out : Bytes} {c : Cur} {y : Tally} {types : ℕ} (m : Mid levels s env n rest out₀ out c y types)
     (k : Seen) (x : ReadAs s (c .at) k (split 10 (drop (c .at) s))) where
   here : Ahead s (c .at) (m .hs) (length s)
   here = look (m .lines) (stand-some (m .hs) (m .standing))
 
-  stands : Standing (here .head ∷ here .tail)
-  stands = subst Standing (here .is) (m .standing)
+  stands : Standing levels (here .head ∷ here .tail)
+  stands = subst (Standing levels) (here .is) (m .standing)
 
   seen : HeadIs s k (here .head) × (k .next ≡ here .next)
   seen = read-at s (c .at) (here .next) (here .head) k (here .line) x
@@ -209,7 +209,7 @@ module _ {s : Bytes} {env : Env} {n : ℕ} {rest : List Head} {out₀ out : Byte
   pub mid-line : c .line .0 < 4294967295
   mid-line = omega (arith, m .above, m .room, mid-inside m)
 
-  pub mid-skip : (classOf k ≡ 3 → ⊥) → (classOf k ≡ 13 → ⊥) → (c′ : Cur) → (c′ .at ≡ k .next) × (c′ .line .0 ≡ c .line .0 + 1) → Mid s env n rest out₀ out c′ y types
+  pub mid-skip : (classOf k ≡ 3 → ⊥) → (classOf k ≡ 13 → ⊥) → (c′ : Cur) → (c′ .at ≡ k .next) × (c′ .line .0 ≡ c .line .0 + 1) → Mid levels s env n rest out₀ out c′ y types
   mid-skip a b c′ p =
       let t = stand-skip env (c .line .0) (here .head) (here .tail) stands (λ e. b (rank-is ∙ e)) (λ e. a (rank-is ∙ e)) in
       let l : suc (c .line .0) ≡ c′ .line .0 = omega (arith, p .1) in
@@ -233,10 +233,10 @@ module _ {s : Bytes} {env : Env} {n : ℕ} {rest : List Head} {out₀ out : Byte
 
   -- an expression
   module _ (e : classOf k ≡ 13) where
-    tree : Typed env (c .line .0) (here .head) (here .tail) (resultOf env (c .line .0) (here .head) (here .tail))
+    tree : Typed levels env (c .line .0) (here .head) (here .tail) (resultOf env (c .line .0) (here .head) (here .tail))
     tree = stand-expr env (c .line .0) (here .head) (here .tail) stands (sym rank-is ∙ e)
 
-    expr-at : ExprAt s k c 24
+    expr-at : ExprAt s k c levels
     expr-at =
         record {
           tree =
@@ -255,7 +255,7 @@ module _ {s : Bytes} {env : Env} {n : ℕ} {rest : List Head} {out₀ out : Byte
           next = seen .1;
         }
 
-    pub mid-ask : (b : Binds) (work : Bytes) → EnvAs s b env → 65536 ≤ length work → ExprAsk s b k c 24 work y
+    pub mid-ask : (b : Binds) (work : Bytes) → EnvAs s b env → 1024 * (levels + 40) ≤ length work → ExprAsk s b k c levels work y
     unfolding expr-at
     mid-ask b work v l =
         record {
@@ -269,9 +269,9 @@ module _ {s : Bytes} {env : Env} {n : ℕ} {rest : List Head} {out₀ out : Byte
     bound-faults : let r = resultOf env (c .line .0) (here .head) (here .tail) in
         (length (faultsText (r .faults)) + 512 + 1024 * length (tree .left) ≤ 1024 * suc (length (here .tail))) × (length (r .faults) + 4 + 8 * length (tree .left) ≤ 8 * suc (length (here .tail)))
     unfolding rank
-    bound-faults = tree-faults env (c .line .0) (here .head) (here .tail) (tree .left) (at AtExpression 24) (omega arith) (tree .met)
+    bound-faults = tree-faults env (c .line .0) (here .head) (here .tail) (tree .left) (at AtExpression levels) (omega arith) (tree .met)
 
-    module _ {b : Binds} (v : EnvAs s b env) {work work′ out′ : Bytes} {w : Walk} (g : ExprWalked s b k c 24 work work′ out out′ y w) where
+    module _ {b : Binds} (v : EnvAs s b env) {work work′ out′ : Bytes} {w : Walk} (g : ExprWalked s b k c levels work work′ out out′ y w) where
       abbrev res : Res
       res = resultOf env (c .line .0) (here .head) (here .tail)
 
@@ -313,7 +313,7 @@ module _ {s : Bytes} {env : Env} {n : ℕ} {rest : List Head} {out₀ out : Byte
         mid-kept out″ i d = as-long (d (res .ty) (says .type .is)) ∙ mid-as-long
 
         pub mid-typed : (out″ : Bytes) (i : ℕ) → ((u : Ty) → take len work′ ≡ line u → Appends (typeText u) out′ out″ (z .fill) i) → (y′ : Tally) → (y′ .fill ≡ i) × (y′ .faults ≡ z .faults)
-            → Mid s env n rest out₀ out″ c′ y′ (types + 1)
+            → Mid levels s env n rest out₀ out″ c′ y′ (types + 1)
         unfolding topsText faultCount
         mid-typed out″ i f y′ p =
             let d : Appends (typeText (res .ty)) out′ out″ (z .fill) i = f (res .ty) (says .type .is) in
@@ -356,7 +356,7 @@ pub less : (k a b : ℕ) → a < b → a ≤ k + 1 → k + 2 - b < k + 2 - a
 less k a b h l = omega arith
 
 -- whatever stands at the first cursor: the loop is before a line
-pub record Going (s : Bytes) (b : Binds) (c₀ : Cur) (work₀ work out₀ out : Bytes) (c : Cur) (y : Tally) (types : ℕ) : Type 0 where
+pub record Going (levels : ℕ) (s : Bytes) (b : Binds) (c₀ : Cur) (work₀ work out₀ out : Bytes) (c : Cur) (y : Tally) (types : ℕ) : Type 0 where
   pub long : length work ≡ length work₀
   pub as-long : length out ≡ length out₀
-  pub mid : (a : StatementAt s c₀) (env : Env) → EnvAs s b env → Mid s env (c₀ .line .0) (a .rest) out₀ out c y types
+  pub mid : (a : StatementAt levels s c₀) (env : Env) → EnvAs s b env → Mid levels s env (c₀ .line .0) (a .rest) out₀ out c y types

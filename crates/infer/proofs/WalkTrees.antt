@@ -10,7 +10,7 @@ use borrow.Author.Tests.{eqb-true}
 use Rattle.semantics.specs.Bytes.{Bytes}
 use Rattle.semantics.specs.Ty.{Ty}
 use Rattle.semantics.specs.Sheet.{Head, Place, entering, rule, roles, arity, rank, place, Want, at, wanted, deeper, fits, beyond, ok, under, under as wantsUnder}
-use Rattle.semantics.specs.Walk.{Env, Res, Fault, step, walk, allTests}
+use Rattle.semantics.specs.Walk.{Env, Res, Fault, step, walk, envOf, allTests}
 use Rattle.semantics.specs.Calls.{firstLarge}
 use Rattle.hir.specs.Lines.{LineAt, Lines, no-line, a-line, Met, all-met, meets}
 use Rattle.hir.proofs.LinesLaws.{met-split, Inner, AllIn, none-in, one-in, inner-under, met-walk}
@@ -106,7 +106,7 @@ tree-ends {w} {h} {hs} {ks} i m env n k e =
 pub tree-shorter : {w : Want} {h : Head} {hs ks : List Head} → Inner w → Met (w ∷ []) (h ∷ hs) ks → length ks ≤ length hs
 tree-shorter {w} {h} {hs} {ks} i m =
     let f = met-fits m in
-    let r = met-walk (all-in (inner-under w h i (f .0) .1) none-in) (f .2) (record { bindings = [] }) 0 in
+    let r = met-walk (all-in (inner-under w h i (f .0) .1) none-in) (f .2) (envOf []) 0 in
     omega (arith, r .1)
 
 -- ## Lines that pass on what hangs under them

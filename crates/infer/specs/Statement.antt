@@ -2,7 +2,7 @@
 use mathlib.Core.Path.{_≡_}
 use mathlib.Core.List.{List, [], _∷_, _++_}
 use mathlib.Core.Option.{Option, none, some}
-use Prim.Native.Nat.{ℕ, _+_, _≤_, _<_}
+use Prim.Native.Nat.{ℕ, _+_, _*_, _≤_, _<_}
 use lib.ListN.{length}
 use lib.Seq.{sets}
 use Rattle.semantics.specs.Bytes.{Bytes}
@@ -18,19 +18,19 @@ use Rattle.infer.specs.declared.walk.Cur.{Cur}
 use Rattle.infer.specs.declared.statement.Report.{Report}
 use Rattle.infer.specs.declared.statement.Report.the-variants.{Made, TooLarge}
 
--- the clauses stand at the cursor, up to the end of the sheet
-pub record StatementAt (s : Bytes) (c : Cur) : Type 0 where
+-- the clauses stand at the cursor, up to the end of the sheet, with so many levels for each top expression
+pub record StatementAt (levels : ℕ) (s : Bytes) (c : Cur) : Type 0 where
   pub rest : List Head
   pub lines : Lines s (c .at) rest (length s)
-  pub standing : Standing rest
+  pub standing : Standing levels rest
   pub above : c .line .0 ≤ c .at + 1
   pub room : length s < 65536
 
-pub record StatementAsk (s : Bytes) (b : Binds) (c : Cur) (work : Bytes) : Type 0 where
-  pub at : StatementAt s c
+pub record StatementAsk (levels : ℕ) (s : Bytes) (b : Binds) (c : Cur) (work : Bytes) : Type 0 where
+  pub at : StatementAt levels s c
   pub env : Env
   pub bound : EnvAs s b env
-  pub room : 65536 ≤ length work
+  pub room : 1024 * (levels + 40) ≤ length work
 
 -- the line of the first type that is too large; or the report from the start of the output on, and its length
 abbrev pub MadeAs : Option ℕ → List Top → Bytes → Bytes → Report → Type 0
@@ -39,8 +39,8 @@ MadeAs none ts out out′ (TooLarge m) = ⊥
 MadeAs (some l) ts out out′ (Made n) = ⊥
 MadeAs (some l) ts out out′ (TooLarge m) = m .0 ≡ l
 
-pub record Reported (s : Bytes) (b : Binds) (c : Cur) (work work′ out out′ : Bytes) (r : Report) : Type 0 where
+pub record Reported (levels : ℕ) (s : Bytes) (b : Binds) (c : Cur) (work work′ out out′ : Bytes) (r : Report) : Type 0 where
   pub long : length work′ ≡ length work
   pub as-long : length out′ ≡ length out
-  pub made : (a : StatementAt s c) (env : Env) → EnvAs s b env
+  pub made : (a : StatementAt levels s c) (env : Env) → EnvAs s b env
       → MadeAs (firstLarge (allTests (walk env (c .line .0) (a .rest)))) (outTops env (c .line .0) (a .rest)) out out′ r

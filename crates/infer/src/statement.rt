@@ -27,10 +27,17 @@ fn filled(y: Tally, fill: usize) -> Tally
     }
 }
 
-// The report of the clauses from the cursor on.
-pub fn check_statement(b: Env, sheet: &[u8], cur: Cur, work: &mut [u8], out: &mut [u8]) -> Report
-    requires { ⌜ StatementAsk (now sheet) b cur (now work) ⌝ }
-    ensures { λ r. ⌜ Reported (now (sheet .entry)) b cur (now (work .entry)) (now (work .exit)) (now (out .entry)) (now (out .exit)) r ⌝ }
+// The report of the clauses from the cursor on, with so many levels for each top expression.
+pub fn check_statement(
+    b: Env,
+    sheet: &[u8],
+    cur: Cur,
+    levels: usize,
+    work: &mut [u8],
+    out: &mut [u8],
+) -> Report
+    requires { ⌜ StatementAsk levels (now sheet) b cur (now work) ⌝ }
+    ensures { λ r. ⌜ Reported levels (now (sheet .entry)) b cur (now (work .entry)) (now (work .exit)) (now (out .entry)) (now (out .exit)) r ⌝ }
 {
     let mut c = cur;
     let mut y = Tally { fill: 0, faults: 0 };
@@ -43,7 +50,7 @@ pub fn check_statement(b: Env, sheet: &[u8], cur: Cur, work: &mut [u8], out: &mu
             return Report::Made(report::end_line(out, y.fill, types, y.faults as u64));
         }
         if class == 13 {
-            match infer_expr(b, sheet, k, c, 24, work, out, y) {
+            match infer_expr(b, sheet, k, c, levels, work, out, y) {
                 Walk::Done { len, cur, tally } => {
                     c = cur;
                     y = filled(tally, report::type_line(out, tally.fill, &work[..len]));

@@ -18,8 +18,8 @@ use Rattle.text.proofs.Words.{ends, index-first}
 use Rattle.line.specs.declared.field.Val.{Val}
 use Rattle.line.specs.declared.field.Fields.{Fields}
 use Rattle.line.specs.declared.line.Head.{Head as Seen}
-use Rattle.line.specs.Arrays.{shapes, slots, fieldRows}
-use Rattle.line.specs.Rows.{codeFrom, numberIn, wordNo}
+use Rattle.line.specs.Arrays.{fieldNo, fieldNos, shapes, slots, fieldRows}
+use Rattle.line.specs.Rows.{codeFrom, numberIn, wordNo, numbered}
 use Rattle.line.specs.Fields.{fieldOf, fieldsOf, valOf, valueAt, nothingYet, storedIn}
 use Rattle.line.specs.Line.{pieces, FilledAs, ReadAs, seenAs}
 use Rattle.line.specs.Quick.{Clean, Stood, WordAt, ClosedAs, QuickBehind, RowIs, LeadAs, rowIn}
@@ -291,12 +291,12 @@ quick-bare s end word f e inside bytes sl row r cl =
 
 -- ## The row
 
-number-less : (c : ℕ) (vs : List Word) → numberIn c vs < 56
+number-less : (c : ℕ) (vs : List Word) → numberIn c vs < 64
 unfolding numberIn
 number-less c [] = omega arith
 number-less c (v ∷ vs) = go (eqb c (codeFrom 1 (text (row v .spelled)))) (number-less c vs)
   where
-    go : (b : Bool) → numberIn c vs < 56 → elim b [ true ↦ wordNo v | false ↦ numberIn c vs ] < 56
+    go : (b : Bool) → numberIn c vs < 64 → elim b [ true ↦ wordNo v | false ↦ numberIn c vs ] < 64
     go true ih = word-range v .1
     go false ih = ih
 
@@ -309,7 +309,7 @@ pub quick-lead : (s : Bytes) (at : ℕ) (r : Lead) → LeadAs s at r → (x : �
     → WordAt s at (r .end) (x % 64) × RowIs (x % 64) (x / 4096) (x / 64 % 64)
 quick-lead s at r l x e pos =
     let n : ℕ = numberIn (r .code) words in
-    let less : n < 56 = number-less (r .code) words in
+    let less : n < 64 = number-less (r .code) words in
     let w : x % 64 ≡ n = omega (arith, e) in
     let g : x / 64 ≡ getD fieldRows n 0 = omega (arith, e) in
     let d = l (number-code (r .code) (omega arith)) in
@@ -336,7 +336,7 @@ single-at (x ∷ xs) e zero = both-l (single? x) (singles? xs) e
 single-at (x ∷ xs) e (suc w) = single-at xs (both-r (single? x) (singles? xs) e) w
 
 all-single : singles? shapes ≡ true
-unfolding singles? single? shapes
+unfolding singles? single? shapes numbered row fieldNo fieldNos
 all-single = refl
 
 pub one-field : (x w : ℕ) → x ≡ getD shapes w 0 → 0 < x → x < 257 → 1 + 32 * (x / 32) ≡ x

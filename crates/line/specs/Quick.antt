@@ -90,7 +90,7 @@ pub record WordAt (s : Bytes) (at end word : ℕ) : Type 0 where
 
 -- what the tables say of the word
 abbrev pub RowIs : ℕ → ℕ → ℕ → Type 0
-RowIs word sh sl = (word < 56) × (0 < word) × (sh ≡ getD shapes word 0) × (sl ≡ getD slots word 0)
+RowIs word sh sl = (word < 64) × (0 < word) × (sh ≡ getD shapes word 0) × (sl ≡ getD slots word 0)
 
 -- its one field is a name
 abbrev pub NameRow : ℕ → Type 0

@@ -179,9 +179,9 @@ Passed w (ok h) = (fits w (rank (place h)) ≡ true) × Forms h
 
 beyond-passed : (w : Want) (h : Head) → fits w (rank (place h)) ≡ true → Forms h → Passed w (beyond w h)
 unfolding beyond
-beyond-passed first h f p = (f, p)
-beyond-passed clauses h f p = (f, p)
-beyond-passed (bindings v) h f p = either (Passed (bindings v)) (eqb (rank (place h)) 1 && ltb (variableOf h) v) tt (f, p)
+beyond-passed (first d) h f p = (f, p)
+beyond-passed (clauses d) h f p = (f, p)
+beyond-passed (bindings v d) h f p = either (Passed (bindings v d)) (eqb (rank (place h)) 1 && ltb (variableOf h) v) tt (f, p)
 beyond-passed (at q d) h f p = either (Passed (at q d)) (eqb (rank q) 13 && eqb d 0) tt (f, p)
 
 then-passed : (w : Want) (v : Word) (r : Read) → OfWord v r → OkForms r → fits w (rank (row v .place)) ≡ true → Passed w (andThen r (beyond w))
@@ -224,48 +224,48 @@ unfolding boundBy
 no-bound p v k bs a b = rw (a, b, boundBy)
 
 -- a line that is no `b` line ends the bindings
-ends-bindings : (v : ℕ) (h : Head) (ks : List Head) → fits (bindings v) (rank (place h)) ≡ true → eqb (rank (place h)) 1 ≡ false → bound (h ∷ ks) ≡ []
+ends-bindings : (d v : ℕ) (h : Head) (ks : List Head) → fits (bindings v d) (rank (place h)) ≡ true → eqb (rank (place h)) 1 ≡ false → bound (h ∷ ks) ≡ []
 unfolding bound fits
-ends-bindings v h ks f b =
+ends-bindings d v h ks f b =
     let p = and-eq-true-iff (leb 1 (rank (place h))) (leb (rank (place h)) 3) .0 f in
     no-bound (rank (place h)) (h .var) (num h 0) (bound ks) (ne-eqb (rank (place h)) 0 (λ e. omega (arith, leb-true 1 (rank (place h)) (p .0)))) b
 
 -- after a `b` line: a greater one, a clause or the end
-after-binding : (v : ℕ) (b : ℕ × ℕ) → under (bindings v) (bindingLine b) ++ [] ≡ bindings (suc (b .0)) ∷ []
+after-binding : (d v : ℕ) (b : ℕ × ℕ) → under (bindings v d) (bindingLine b) ++ [] ≡ bindings (suc (b .0)) d ∷ []
 unfolding under roles row after rank
-after-binding v b = refl
+after-binding d v b = refl
 
-module _ (v n : ℕ) (ls : List Bytes) (ih : (w : ℕ) (ks : List Head) → check (bindings w ∷ []) (suc n) ls ≡ heads ks → Form ks) where
-  binding-step : (b : ℕ × ℕ) (ks : List Head) → check (under (bindings v) (bindingLine b) ++ []) (suc n) ls ≡ heads ks → Form (bindingLine b ∷ ks)
+module _ (d v n : ℕ) (ls : List Bytes) (ih : (w : ℕ) (ks : List Head) → check (bindings w d ∷ []) (suc n) ls ≡ heads ks → Form ks) where
+  binding-step : (b : ℕ × ℕ) (ks : List Head) → check (under (bindings v d) (bindingLine b) ++ []) (suc n) ls ≡ heads ks → Form (bindingLine b ∷ ks)
   binding-step b ks e =
-      let f = ih (suc (b .0)) ks (rw (after-binding v b) at e) in
+      let f = ih (suc (b .0)) ks (rw (after-binding d v b) at e) in
       record { bs = b ∷ f .bs; body = f .body; is = ap (λ z. bindingLine b ∷ z) (f .is); free = f .free }
 
-  form-step : (h : Head) (ks : List Head) → (fits (bindings v) (rank (place h)) ≡ true) × Forms h → check (under (bindings v) h ++ []) (suc n) ls ≡ heads ks → Form (h ∷ ks)
+  form-step : (h : Head) (ks : List Head) → (fits (bindings v d) (rank (place h)) ≡ true) × Forms h → check (under (bindings v d) h ++ []) (suc n) ls ≡ heads ks → Form (h ∷ ks)
   form-step h ks p e = go (eqb (rank (place h)) 1) refl
     where
       of : (b : ℕ × ℕ) → h ≡ bindingLine b → Form (h ∷ ks)
       of b q =
-          let e′ : check (under (bindings v) (bindingLine b) ++ []) (suc n) ls ≡ heads ks = sym (ap (λ (z : Head). check (under (bindings v) z ++ []) (suc n) ls) q) ∙ e in
+          let e′ : check (under (bindings v d) (bindingLine b) ++ []) (suc n) ls ≡ heads ks = sym (ap (λ (z : Head). check (under (bindings v d) z ++ []) (suc n) ls) q) ∙ e in
           subst (λ (z : Head). Form (z ∷ ks)) (sym q) (binding-step b ks e′)
 
       go : (x : Bool) → eqb (rank (place h)) 1 ≡ x → Form (h ∷ ks)
       go true b = let q = p .1 .binding-form b in of (q .0) (q .1)
-      go false b = record { bs = []; body = h ∷ ks; is = refl; free = ends-bindings v h ks (p .0) b }
+      go false b = record { bs = []; body = h ∷ ks; is = refl; free = ends-bindings d v h ks (p .0) b }
 
-  carried-form : (r : Read) → Passed (bindings v) r → (hs : List Head) → carry n r (λ h. check (under (bindings v) h ++ []) (suc n) ls) ≡ heads hs → Form hs
+  carried-form : (r : Read) → Passed (bindings v d) r → (hs : List Head) → carry n r (λ h. check (under (bindings v d) h ++ []) (suc n) ls) ≡ heads hs → Form hs
   unfolding carry
   carried-form (bad c) p hs e = let z : _≡_ {A = ℕ} 0 1 = cc in absurd (omega arith)
   carried-form (ok h) p hs e =
-      let (ks, q, is) = add-heads h (check (under (bindings v) h ++ []) (suc n) ls) hs e in
+      let (ks, q, is) = add-heads h (check (under (bindings v d) h ++ []) (suc n) ls) hs e in
       subst Form (sym is) (form-step h ks p q)
 
 -- behind the first line: `b` lines, and then a line that is none
-bindings-form : (ls : List Bytes) (v n : ℕ) (hs : List Head) → check (bindings v ∷ []) n ls ≡ heads hs → Form hs
+bindings-form : (ls : List Bytes) (d v n : ℕ) (hs : List Head) → check (bindings v d ∷ []) n ls ≡ heads hs → Form hs
 unfolding check
-bindings-form [] v n hs e = let z : _≡_ {A = ℕ} 0 1 = cc in absurd (omega arith)
-bindings-form (l ∷ []) v n hs e = let z : _≡_ {A = ℕ} 0 1 = cc in absurd (omega arith)
-bindings-form (l ∷ l′ ∷ ls) v n hs e = carried-form v n (l′ ∷ ls) (λ w ks. bindings-form (l′ ∷ ls) w (suc n) ks) (readLine (bindings v) l) (line-passed (bindings v) l) hs e
+bindings-form [] d v n hs e = let z : _≡_ {A = ℕ} 0 1 = cc in absurd (omega arith)
+bindings-form (l ∷ []) d v n hs e = let z : _≡_ {A = ℕ} 0 1 = cc in absurd (omega arith)
+bindings-form (l ∷ l′ ∷ ls) d v n hs e = carried-form d v n (l′ ∷ ls) (λ w ks. bindings-form (l′ ∷ ls) d w (suc n) ks) (readLine (bindings v d) l) (line-passed (bindings v d) l) hs e
 
 -- ## The whole sheet
 
@@ -275,27 +275,27 @@ pub record Renumberable (hs : List Head) : Type 0 where
   pub is : hs ≡ withBindings bs body
   pub free : bound body ≡ []
 
-after-first : under first (mk CYRS none (1 ∷ []) []) ++ [] ≡ bindings 0 ∷ []
+after-first : (d : ℕ) → under (first d) (mk CYRS none (1 ∷ []) []) ++ [] ≡ bindings 0 d ∷ []
 unfolding under roles row after rank
-after-first = refl
+after-first d = refl
 
-first-carried : (ls : List Bytes) (r : Read) → Passed first r → (hs : List Head) → carry 1 r (λ h. check (under first h ++ []) 2 ls) ≡ heads hs → Renumberable hs
+first-carried : (d : ℕ) (ls : List Bytes) (r : Read) → Passed (first d) r → (hs : List Head) → carry 1 r (λ h. check (under (first d) h ++ []) 2 ls) ≡ heads hs → Renumberable hs
 unfolding carry fits
-first-carried ls (bad c) p hs e = let z : _≡_ {A = ℕ} 0 1 = cc in absurd (omega arith)
-first-carried ls (ok h) p hs e =
-    let (ks, q, is) = add-heads h (check (under first h ++ []) 2 ls) hs e in
+first-carried d ls (bad c) p hs e = let z : _≡_ {A = ℕ} 0 1 = cc in absurd (omega arith)
+first-carried d ls (ok h) p hs e =
+    let (ks, q, is) = add-heads h (check (under (first d) h ++ []) 2 ls) hs e in
     let h-is : h ≡ mk CYRS none (1 ∷ []) [] = p .1 .first-form (p .0) in
-    let q′ : check (under first (mk CYRS none (1 ∷ []) []) ++ []) 2 ls ≡ heads ks = sym (ap (λ (z : Head). check (under first z ++ []) 2 ls) h-is) ∙ q in
-    let f = bindings-form ls 0 2 ks (rw after-first at q′) in
+    let q′ : check (under (first d) (mk CYRS none (1 ∷ []) []) ++ []) 2 ls ≡ heads ks = sym (ap (λ (z : Head). check (under (first d) z ++ []) 2 ls) h-is) ∙ q in
+    let f = bindings-form ls d 0 2 ks (rw (after-first d) at q′) in
     record { bs = f .bs; body = f .body; is = is ∙ ap (λ (z : Head). z ∷ ks) h-is ∙ ap (λ (z : List Head). mk CYRS none (1 ∷ []) [] ∷ z) (f .is); free = f .free }
 
-sheet-lines : (ls : List Bytes) (hs : List Head) → check (first ∷ []) 1 ls ≡ heads hs → Renumberable hs
+sheet-lines : (d : ℕ) (ls : List Bytes) (hs : List Head) → check (first d ∷ []) 1 ls ≡ heads hs → Renumberable hs
 unfolding check
-sheet-lines [] hs e = let z : _≡_ {A = ℕ} 0 1 = cc in absurd (omega arith)
-sheet-lines (l ∷ []) hs e = let z : _≡_ {A = ℕ} 0 1 = cc in absurd (omega arith)
-sheet-lines (l ∷ l′ ∷ ls) hs e = first-carried (l′ ∷ ls) (readLine first l) (line-passed first l) hs e
+sheet-lines d [] hs e = let z : _≡_ {A = ℕ} 0 1 = cc in absurd (omega arith)
+sheet-lines d (l ∷ []) hs e = let z : _≡_ {A = ℕ} 0 1 = cc in absurd (omega arith)
+sheet-lines d (l ∷ l′ ∷ ls) hs e = first-carried d (l′ ∷ ls) (readLine (first d) l) (line-passed (first d) l) hs e
 
 -- a sheet that can be read may be renumbered by any map that is one to one on its variables
-pub read-renumberable : (s : Bytes) (hs : List Head) → sheet s ≡ heads hs → Renumberable hs
+pub read-renumberable : (d : ℕ) (s : Bytes) (hs : List Head) → sheet d s ≡ heads hs → Renumberable hs
 unfolding sheet
-read-renumberable s hs e = sheet-lines (split 10 s) hs e
+read-renumberable d s hs e = sheet-lines d (split 10 s) hs e

@@ -10,7 +10,7 @@ use borrow.Author.Tests.{eqb-true, eqb-false, eq-eqb, ne-eqb, ltb-true}
 use Rattle.semantics.specs.Bytes.{Bytes}
 use Rattle.semantics.specs.Ty.{Ty}
 use Rattle.semantics.specs.Sheet.{Word, Head, num, Role, Typing, constant, varType, element, slice, listing, mapping, calling, operator, unary, casing, membership, comprehension, Rule, silent, entering, typed, row, rank, place, rule, roles, arity}
-use Rattle.semantics.specs.Walk.{Env, kindType, varTypeIn, varTypeOf, Res, Top, named, typeBy, typeOf, ownBy, own, label, step, walk, binds, boundBy, bound, results, tops, topsBy, allTops, typing}
+use Rattle.semantics.specs.Walk.{Env, kindType, varTypeIn, varTypeOf, Res, Top, named, typeBy, typeOf, ownBy, own, label, step, walk, binds, boundBy, bound, envOf, results, tops, topsBy, allTops, typing}
 use Rattle.rewording.specs.Reword.{mk, renumber?, renumbered, with-variable, variables, OneToOne, bindingLine, insertBinding, inAscendingOrder, renumberedBinding, withBindings, Each, no-more, more}
 use Rattle.rewording.proofs.Congruence.{each-take, each-drop, Rel, Respects, TopLike, Like, named-eq, all-tops, of-eq, spread-like, tops-by-like}
 
@@ -211,10 +211,10 @@ pub renumber-agrees : {S : Rel} (ok : Respects S) (f : ℕ → ℕ) (bs : Bindin
 unfolding typing results walk step arity roles row tops topsBy allTops variables with-variable
 renumber-agrees ok f bs body e inj =
     let cs = inAscendingOrder (mapL (renumberedBinding f) bs) in
-    let env : Env = record { bindings = bs } in
-    let env′ : Env = record { bindings = cs } in
+    let env : Env = envOf (withBindings bs body) in
+    let env′ : Env = envOf (withBindings cs (mapL (renumbered f) body)) in
     let (n, p) = front-tops env bs body 2 in
     let (m, q) = front-tops env′ cs (mapL (renumbered f) body) 2 in
-    rw (front-bound bs body e, front-bound cs (mapL (renumbered f) body) (bound-renumbered f body e), p, q)
+    rw (p, q)
     (all-tops ok (walk-renumbered ok f env env′ body
-    (λ v i. sym (type-sorted (f v) (mapL (renumberedBinding f) bs) ∙ type-renumbered f v bs (λ x k h. inj v (x .0) (variables-body bs body i) (variables-bound body k) h))) n m))
+    (λ v i. rw (front-bound bs body e, front-bound cs (mapL (renumbered f) body) (bound-renumbered f body e)) (sym (type-sorted (f v) (mapL (renumberedBinding f) bs) ∙ type-renumbered f v bs (λ x k h. inj v (x .0) (variables-body bs body i) (variables-bound body k) h)))) n m))

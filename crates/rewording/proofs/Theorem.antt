@@ -9,7 +9,7 @@ use native.Mathlib.Omega.{arith}
 use lib.ListN.{length, take, drop, length-append}
 use lib.Seq.{take-append-seam}
 use lib.Dec.{eqb, ltb}
-use Rattle.semantics.specs.Limits.{sheetLimit, workSize}
+use Rattle.semantics.specs.Limits.{sheetLimit, depthLimit, workSize}
 use Rattle.semantics.specs.Bytes.{Bytes}
 use Rattle.semantics.specs.Sheet.{BIN, CASE, MAP, KEY, Head, num, row, rank, place, low, Sheet, refused, heads, sheet}
 use Rattle.semantics.specs.Walk.{Fault, Top, Env, envOf, bound, boundBy, results, allTops, typing}
@@ -78,7 +78,7 @@ each-trans tr (more p ps) (more q qs) = more (record { ty = p .ty ∙ q .ty; fau
 
 chain-agrees : {S : Rel} (ok : Respects S) → ((a b c : List Fault) → S a b → S b c → S a c) → {X : List Head → List Head → Type 0}
     → ((hs ks : List Head) → X hs ks → Each (TopLike S) (typing hs) (typing ks))
-    → {s t : Bytes} → Chain X s t → (hs ks : List Head) → sheet s ≡ heads hs → sheet t ≡ heads ks → Each (TopLike S) (typing hs) (typing ks)
+    → {s t : Bytes} → Chain X s t → (hs ks : List Head) → sheet depthLimit s ≡ heads hs → sheet depthLimit t ≡ heads ks → Each (TopLike S) (typing hs) (typing ks)
 chain-agrees ok tr f (here s) hs ks p q = let e : hs ≡ ks = cc in rw e (tops-refl ok (typing ks))
 chain-agrees ok tr f (link {hs = hs′} {ks = ks′} a b x c) hs ks p q =
     let e : hs ≡ hs′ = cc in
@@ -92,11 +92,11 @@ unfolding limited
 limited-report hs none x e = let f : accepted (report (typing hs)) ≡ accepted x = e in cc
 limited-report hs (some n) x e = let f : refusal 6 n ≡ accepted x = e in cc
 
-accepted-is : (s x : Bytes) → outcome s ≡ accepted x → (hs : List Head) × (sheet s ≡ heads hs) × (x ≡ report (typing hs))
+accepted-is : (s x : Bytes) → outcome s ≡ accepted x → (hs : List Head) × (sheet depthLimit s ≡ heads hs) × (x ≡ report (typing hs))
 unfolding outcome
-accepted-is s x e = go (sheet s) refl e
+accepted-is s x e = go (sheet depthLimit s) refl e
   where
-    go : (q : Sheet) → sheet s ≡ q → judged q ≡ accepted x → (hs : List Head) × (sheet s ≡ heads hs) × (x ≡ report (typing hs))
+    go : (q : Sheet) → sheet depthLimit s ≡ q → judged q ≡ accepted x → (hs : List Head) × (sheet depthLimit s ≡ heads hs) × (x ≡ report (typing hs))
     go (refused c n) p e = unfold judged in (let f : refusal c n ≡ accepted x = e in let z : _≡_ {A = ℕ} 0 1 = cc in absurd (omega arith))
     go (heads hs) p e = (hs, p, unfold judged in limited-report hs _ x e)
 
@@ -108,7 +108,7 @@ limited-cause (some m) hs c n e z = let f : refusal 6 m ≡ refusal c n = e in l
 
 outcome-cause : (s : Bytes) (c n : ℕ) → outcome s ≡ refusal c n → c ≡ 0 → ⊥
 unfolding outcome
-outcome-cause s c n e z = go (sheet s) (sheet-fine s) e
+outcome-cause s c n e z = go (sheet depthLimit s) (sheet-fine depthLimit s) e
   where
     go : (q : Sheet) → FineSheet q → judged q ≡ refusal c n → ⊥
     go (refused d m) h e = unfold judged in (let f : refusal d m ≡ refusal c n = e in let y : d ≡ c = cc in omega (arith, h .0))

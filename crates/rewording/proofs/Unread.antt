@@ -8,11 +8,11 @@ use Prim.Native.Nat.{ℕ, suc, zero, _≤_}
 use lib.ListN.{length, take, drop}
 use lib.Dec.{ltb, eqb}
 use borrow.Author.Tests.{le-ltb}
-use Rattle.semantics.specs.Limits.{sheetLimit, workSize}
+use Rattle.semantics.specs.Limits.{sheetLimit, depthLimit, workSize}
 use Rattle.semantics.specs.Bytes.{Bytes}
 use Rattle.semantics.specs.Builtins.{folded, lookup, lookupIn, builtins}
 use Rattle.semantics.specs.Sheet.{Head, num, place, row, rank, roles, arity, Sheet, heads, sheet}
-use Rattle.semantics.specs.Walk.{Res, Env, typeOf, typeBy, own, ownBy, lastTests, lastBy, label, topsBy, step, walk, bound, boundBy, results, allTops, allTests, typing}
+use Rattle.semantics.specs.Walk.{Res, Env, typeOf, typeBy, own, ownBy, lastTests, lastBy, label, topsBy, step, walk, bound, boundBy, envOf, results, allTops, allTests, typing}
 use Rattle.semantics.specs.Calls.{Settled, untouched, settled, accepted, report, firstLarge, outcome, judged, limited, sheetCall}
 use Rattle.rewording.specs.Reword.{Literal, aBool, anInt, aFloat, aString, Unread, in-str, in-par, in-unr, in-prop, in-cop, in-com, in-sho, in-ali, in-lab, in-sp, in-rp, in-cal, SameFunction, Line, value, unread, alias, function, Each, no-more, more, Alike, same-line, other, Secrecy}
 
@@ -114,7 +114,7 @@ bound-alike (more {xs = hs} {ys = ks} a l) = alike-bound a hs ks (bound-alike l)
 
 pub results-alike : {hs ks : List Head} → Each Alike hs ks → results hs ≡ results ks
 unfolding results
-results-alike {ks = ks} l = rw (bound-alike l) (walk-alike l (record { bindings = bound ks }) 1)
+results-alike {ks = ks} l = rw (bound-alike l) (walk-alike l (envOf ks) 1)
 
 -- ## Secrecy
 
@@ -123,7 +123,7 @@ unfolding limited
 limited-alike hs ks e none = ap (λ ts. accepted (report ts)) e
 limited-alike hs ks e (some n) = refl
 
-outcome-alike : (s t : Bytes) {hs ks : List Head} → sheet s ≡ heads hs → sheet t ≡ heads ks → Each Alike hs ks → outcome s ≡ outcome t
+outcome-alike : (s t : Bytes) {hs ks : List Head} → sheet depthLimit s ≡ heads hs → sheet depthLimit t ≡ heads ks → Each Alike hs ks → outcome s ≡ outcome t
 unfolding outcome judged typing
 outcome-alike s t {hs} {ks} p q l =
     let e = results-alike l in

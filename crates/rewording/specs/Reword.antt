@@ -12,7 +12,7 @@ use mathlib.Core.Logic.{_⊎_}
 use Prim.Native.Nat.{ℕ, suc, _+_, _*_, _≤_}
 use lib.ListN.{length, take}
 use lib.Dec.{eqb, ltb}
-use Rattle.semantics.specs.Limits.{sheetLimit}
+use Rattle.semantics.specs.Limits.{sheetLimit, depthLimit}
 use Rattle.semantics.specs.Bytes.{Bytes, same, split}
 use Rattle.semantics.specs.Ty.{Ty, tList, tMap, tUnion, Tys, _⊕_, Fields, field, members, line, ascending, union?}
 use Rattle.semantics.specs.Builtins.{folded, lookup}
@@ -136,7 +136,7 @@ Reword hs ks = Keep hs ks ⊎ Exchange hs ks
 -- such a sheet; nothing else is asked of a sheet between
 pub data Chain (X : List Head → List Head → Type 0) : Bytes → Bytes → Type 0 where
   here : (s : Bytes) → Chain X s s
-  link : {s t u : Bytes} {hs ks : List Head} → sheet s ≡ heads hs → sheet t ≡ heads ks → X hs ks → Chain X t u → Chain X s u
+  link : {s t u : Bytes} {hs ks : List Head} → sheet depthLimit s ≡ heads hs → sheet depthLimit t ≡ heads ks → X hs ks → Chain X t u → Chain X s u
 
 -- ## Reports
 
@@ -240,5 +240,5 @@ pub data Alike : Head → Head → Type 0 where
 -- SECRECY: two sheets that differ in literal values and unread names alone are answered alike, refusals among them: number, returned
 -- numbers and every byte of both buffers
 pub record Secrecy : Type 0 where
-  pub alike : (s t : Bytes) {hs ks : List Head} → sheet s ≡ heads hs → sheet t ≡ heads ks → Each Alike hs ks → length s ≤ sheetLimit → length t ≤ sheetLimit
+  pub alike : (s t : Bytes) {hs ks : List Head} → sheet depthLimit s ≡ heads hs → sheet depthLimit t ≡ heads ks → Each Alike hs ks → length s ≤ sheetLimit → length t ≤ sheetLimit
       → (work out : Bytes) → sheetCall s work out ≡ sheetCall t work out

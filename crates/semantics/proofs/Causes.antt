@@ -99,9 +99,9 @@ fill-fine h (f ∷ fs) (x ∷ xs) = into-fine h (value f (h .nums) x) (λ k. fil
 
 beyond-fine : (w : Want) (h : Head) → FineRead (beyond w h)
 unfolding beyond
-beyond-fine first h = tt
-beyond-fine clauses h = tt
-beyond-fine (bindings v) h = either FineRead (eqb (rank (place h)) 1 && ltb (variableOf h) v) three tt
+beyond-fine (first d) h = tt
+beyond-fine (clauses d) h = tt
+beyond-fine (bindings v d) h = either FineRead (eqb (rank (place h)) 1 && ltb (variableOf h) v) three tt
 beyond-fine (at q d) h = either FineRead (eqb (rank q) 13 && eqb d 0) five tt
 
 then-fine : (r : Read) (f : Head → Read) → FineRead r → ((h : Head) → FineRead (f h)) → FineRead (andThen r f)
@@ -146,6 +146,6 @@ check-fine (l ∷ l′ ∷ ls) [] n = three
 check-fine (l ∷ []) (w ∷ ws) n = three
 check-fine (l ∷ l′ ∷ ls) (w ∷ ws) n = carry-fine n (readLine w l) (λ h. check (under w h ++ ws) (suc n) (l′ ∷ ls)) (line-fine w l) (λ h. check-fine (l′ ∷ ls) (under w h ++ ws) (suc n))
 
-pub sheet-fine : (s : Bytes) → FineSheet (sheet s)
+pub sheet-fine : (d : ℕ) (s : Bytes) → FineSheet (sheet d s)
 unfolding sheet
-sheet-fine s = check-fine (split 10 s) (first ∷ []) 1
+sheet-fine d s = check-fine (split 10 s) (first d ∷ []) 1

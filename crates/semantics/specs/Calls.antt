@@ -5,7 +5,7 @@ use mathlib.Core.Bool.{Bool, true, false}
 use Prim.Native.Nat.{ℕ, _+_}
 use lib.ListN.{length, drop, replicate}
 use lib.Dec.{eqb, ltb}
-use Rattle.semantics.specs.Limits.{sheetLimit, workSize, unifyOutput}
+use Rattle.semantics.specs.Limits.{sheetLimit, depthLimit, workSize, unifyOutput}
 use Rattle.semantics.specs.Bytes.{Bytes, text, unlines, shown}
 use Rattle.semantics.specs.Ty.{Base, tAny, tNull, tBool, tInt, tFloat, tNum, tString, tDate, tDatetime, tPath, tUnknown, Ty, base, tList, tMap, tNode, tRelationship, tUnion, line, tooLarge, typeLine}
 use Rattle.semantics.specs.Unify.{Answer, agreed, mismatch, Unified, unify}
@@ -89,7 +89,7 @@ judged (refused c n) = refusal c n
 judged (heads hs) = limited (firstLarge (allTests (results hs))) hs
 
 unfoldable pub outcome : Bytes → Outcome
-outcome s = judged (sheet s)
+outcome s = judged (sheet depthLimit s)
 
 -- ## The calls
 

@@ -6,7 +6,7 @@ use Prim.Native.Nat.{ℕ, suc, zero, _+_, _*_, _-_, _/_, _%_}
 use Prim.Native.String.{String}
 use lib.ListN.{length, getD, replicate}
 use lib.Dec.{eqb, ltb, leb}
-use Rattle.semantics.specs.Limits.{nameLimit, countLimit, variableLimit, boundLimit, signedShift, depthLimit}
+use Rattle.semantics.specs.Limits.{nameLimit, countLimit, variableLimit, boundLimit, signedShift}
 use Rattle.semantics.specs.Bytes.{Bytes, text, same, split, decimal, unhex}
 use Rattle.semantics.specs.Ty.{tAny, tNull, tBool, tInt, tFloat, tString, tUnknown, Ty, base, tMap, ∅ᶠ}
 
@@ -294,11 +294,11 @@ fill h (f ∷ fs) (x ∷ xs) = into h (value f (h .nums) x) (λ k. fill k fs xs)
 abbrev pub bare : Word → Head
 bare w = record { word = w; var = none; nums = []; name = [] }
 
--- what is to come: the first line; a binding of a variable of at least this, a clause or the end; a clause or the end; a line of a
--- place, with so many levels left for an expression there
+-- what is to come: the first line; a clause or the end; a binding of a variable of at least this, a clause or the end; a line of a
+-- place; each with the levels left for an expression there, or under what stands there
 pub data Want : Type 0 where
-  first clauses : Want
-  bindings : ℕ → Want
+  first clauses : ℕ → Want
+  bindings : ℕ → ℕ → Want
   at : Place → ℕ → Want
 
 unfoldable pub rank : Place → ℕ
@@ -318,9 +318,9 @@ rank AtItem = 12
 rank AtExpression = 13
 
 unfoldable pub fits : Want → ℕ → Bool
-fits first p = eqb p 0
-fits (bindings v) p = leb 1 p && leb p 3
-fits clauses p = leb 2 p && leb p 3
+fits (first d) p = eqb p 0
+fits (bindings v d) p = leb 1 p && leb p 3
+fits (clauses d) p = leb 2 p && leb p 3
 fits (at q d) p = eqb p (rank q)
 
 abbrev pub variableOf : Head → ℕ
@@ -328,9 +328,9 @@ variableOf h = elim (h .var) [ none ↦ 0 | some v ↦ v ]
 
 -- what a line is refused for beyond its fields: a binding that does not ascend, the depth
 unfoldable pub beyond : Want → Head → Read
-beyond first h = ok h
-beyond clauses h = ok h
-beyond (bindings v) h = elim (eqb (rank (place h)) 1 && ltb (variableOf h) v) [ true ↦ bad 3 | false ↦ ok h ]
+beyond (first d) h = ok h
+beyond (clauses d) h = ok h
+beyond (bindings v d) h = elim (eqb (rank (place h)) 1 && ltb (variableOf h) v) [ true ↦ bad 3 | false ↦ ok h ]
 beyond (at q d) h = elim (eqb (rank q) 13 && eqb d 0) [ true ↦ bad 5 | false ↦ ok h ]
 
 abbrev pub andThen : Read → (Head → Read) → Read
@@ -356,9 +356,9 @@ readLine w l = readPieces w (split 44 l)
 
 -- the levels left for the expressions under a line: one less under an expression, the same under any other
 abbrev pub deeper : Want → ℕ
-deeper first = depthLimit
-deeper clauses = depthLimit
-deeper (bindings v) = depthLimit
+deeper (first d) = d
+deeper (clauses d) = d
+deeper (bindings v d) = d
 deeper (at q d) = cond (eqb (rank q) 13) (d - 1) d
 
 abbrev pub wanted : ℕ → Role → Want
@@ -368,13 +368,13 @@ wanted d answer = at AtExpression d
 wanted d (inner p) = at p d
 
 -- what follows a line where it stands, after all that hangs under it
-unfoldable pub after : Head → List Want
-after h =
+unfoldable pub after : ℕ → Head → List Want
+after d h =
     let p = rank (place h) in
-    elim (eqb p 0) [ true ↦ bindings 0 ∷ [] | false ↦ elim (eqb p 1) [ true ↦ bindings (suc (variableOf h)) ∷ [] | false ↦ elim (eqb p 2) [ true ↦ clauses ∷ [] | false ↦ [] ] ] ]
+    elim (eqb p 0) [ true ↦ bindings 0 d ∷ [] | false ↦ elim (eqb p 1) [ true ↦ bindings (suc (variableOf h)) d ∷ [] | false ↦ elim (eqb p 2) [ true ↦ clauses d ∷ [] | false ↦ [] ] ] ]
 
 unfoldable pub under : Want → Head → List Want
-under w h = map (wanted (deeper w)) (roles h) ++ after h
+under w h = map (wanted (deeper w)) (roles h) ++ after (deeper w) h
 
 -- a sheet as read: refused by a cause at a line, or its heads
 pub data Sheet : Type 0 where
@@ -398,5 +398,6 @@ check [] n (l ∷ l′ ∷ ls) = refused 3 n
 check (w ∷ ws) n (l ∷ []) = refused 3 n
 check (w ∷ ws) n (l ∷ l′ ∷ ls) = carry n (readLine w l) (λ h. check (under w h ++ ws) (suc n) (l′ ∷ ls))
 
-unfoldable pub sheet : Bytes → Sheet
-sheet s = check (first ∷ []) 1 (split 10 s)
+-- a sheet whose expressions may stand at most d levels deep
+unfoldable pub sheet : ℕ → Bytes → Sheet
+sheet d s = check (first d ∷ []) 1 (split 10 s)

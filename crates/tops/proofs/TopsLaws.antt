@@ -8,7 +8,6 @@ use lib.Dec.{eqb, ltb, leb}
 use lib.ListN.{length, getD, take, drop, replicate, length-append, length-map}
 use lib.Seq.{drop-drop}
 use borrow.Author.Tests.{eqb-true, eqb-false, ltb-true, leb-true, ne-eqb, eq-eqb}
-use Rattle.semantics.specs.Limits.{depthLimit}
 use Rattle.semantics.specs.Bytes.{Bytes}
 use Rattle.semantics.specs.Sheet.{kids, Word, Place, AtFirst, AtBinding, AtClause, AtEnd, AtProjection, AtSetItem, AtRemoveItem, AtLabel, AtParts, AtPart, AtElement, AtEntry, AtItem, AtExpression, Role, plain, condition, answer, inner, Typing, Rule, silent, entering, typed, present, armRoles, deeper, Head, rank, place, rule, row, Want, clauses, at, wanted, fits, beyond, ok, under, after, roles, arity}
 use Rattle.semantics.specs.Ty.{Ty}
@@ -306,10 +305,10 @@ skip-tops env n w ws h hs ks e m =
     let o = opened m in
     let rs = walk env (suc n) hs in
     let r = step env n h (take (arity h) rs) in
-    let below : Met (map (wanted d) (roles h) ++ (after h ++ ws)) hs ks = subst (λ (y : List Want). Met y hs ks) (append-assoc (map (wanted d) (roles h)) (after h) ws) (o .below) in
+    let below : Met (map (wanted d) (roles h) ++ (after d h ++ ws)) hs ks = subst (λ (y : List Want). Met y hs ks) (append-assoc (map (wanted d) (roles h)) (after d h) ws) (o .below) in
     ap (λ (y : Rule). topsFor y r ++ zipTops (drop (arity h) (fronts hs)) (drop (arity h) rs)) e
     ∙ ap (λ (y : List Top). y ++ zipTops (drop (arity h) (fronts hs)) (drop (arity h) rs)) (silent-tops env n h (take (arity h) rs) e)
-    ∙ kids-tops (all-fine h) d (after h ++ ws) hs ks below env (suc n)
+    ∙ kids-tops (all-fine h) d (after d h ++ ws) hs ks below env (suc n)
 
 -- a line that is no expression: its children come next, with their tops and their tests
 pub out-skip : (env : Env) (n : ℕ) (w : Want) (ws : List Want) (h : Head) (hs ks : List Head) → rule h ≡ silent → Met (w ∷ ws) (h ∷ hs) ks
@@ -327,25 +326,25 @@ bare-roles : (h : Head) → rank (place h) < 4 → (rank (place h) ≡ 2 → ⊥
 unfolding roles
 bare-roles h a b = plain-rule (h .word) (h .nums) a b
 
-after-end : (h : Head) → rank (place h) ≡ 3 → after h ≡ []
+after-end : (d : ℕ) (h : Head) → rank (place h) ≡ 3 → after d h ≡ []
 unfolding after
-after-end h e = rw (ne-eqb (rank (place h)) 0 (λ d. omega arith), ne-eqb (rank (place h)) 1 (λ d. omega arith), ne-eqb (rank (place h)) 2 (λ d. omega arith), after)
+after-end d h e = rw (ne-eqb (rank (place h)) 0 (λ d. omega arith), ne-eqb (rank (place h)) 1 (λ d. omega arith), ne-eqb (rank (place h)) 2 (λ d. omega arith), after)
 
 end-under : (w : Want) (h : Head) → rank (place h) ≡ 3 → under w h ≡ []
 unfolding under
-end-under w h e = rw (bare-roles h (omega arith) (λ d. omega arith)) (after-end h e)
+end-under w h e = rw (bare-roles h (omega arith) (λ d. omega arith)) (after-end (deeper w) h e)
 
 -- nothing stands behind the end
 pub met-end : (w : Want) (h : Head) (hs ks : List Head) → rank (place h) ≡ 3 → Met (w ∷ []) (h ∷ hs) ks → hs ≡ ks
 met-end w h hs ks e m = none-left (subst (λ (y : List Want). Met (y ++ []) hs ks) (end-under w h e) (opened m .below))
 
-end-met : (h : Head) → rank (place h) ≡ 3 → Met (clauses ∷ []) (h ∷ []) []
+end-met : (d : ℕ) (h : Head) → rank (place h) ≡ 3 → Met (clauses d ∷ []) (h ∷ []) []
 unfolding fits beyond
-end-met h e = meets (ap (fits clauses) e) refl (subst (λ (y : List Want). Met (y ++ []) [] []) (sym (end-under clauses h e)) all-met)
+end-met d h e = meets (ap (fits (clauses d)) e) refl (subst (λ (y : List Want). Met (y ++ []) [] []) (sym (end-under (clauses d) h e)) all-met)
 
 pub out-end : (env : Env) (n : ℕ) (h : Head) → rank (place h) ≡ 3 → (outTops env n (h ∷ []) ≡ []) × (allTests (walk env n (h ∷ [])) ≡ [])
 out-end env n h e =
-    let s = out-skip env n clauses [] h [] [] (top-silent h (omega arith)) (end-met h e) in
+    let s = out-skip env n (clauses 0) [] h [] [] (top-silent h (omega arith)) (end-met 0 h e) in
     (s .0 ∙ out-none env (suc n) .0, s .1 ∙ out-none env (suc n) .1)
 
 -- ## The whole sheet
@@ -371,95 +370,95 @@ binds-out (ascends {h = h} {hs = hs} one low more) env n rest =
       skip-tests env n h (hs ++ rest) (top-silent h (omega arith)) ∙ r .1 ∙ ap (λ (x : ℕ). allTests (walk env x rest)) z,
     )
 
-after-clause : (h : Head) → rank (place h) ≡ 2 → after h ≡ clauses ∷ []
+after-clause : (d : ℕ) (h : Head) → rank (place h) ≡ 2 → after d h ≡ clauses d ∷ []
 unfolding after
-after-clause h e = rw (ne-eqb (rank (place h)) 0 (λ d. omega arith), ne-eqb (rank (place h)) 1 (λ d. omega arith), eq-eqb (rank (place h)) 2 e, after)
+after-clause d h e = rw (ne-eqb (rank (place h)) 0 (λ d. omega arith), ne-eqb (rank (place h)) 1 (λ d. omega arith), eq-eqb (rank (place h)) 2 e, after)
 
-clause-rank : (p : ℕ) → fits clauses p ≡ true → (2 ≤ p) × (p ≤ 3)
+clause-rank : (d p : ℕ) → fits (clauses d) p ≡ true → (2 ≤ p) × (p ≤ 3)
 unfolding fits
-clause-rank p e = let x = both (leb 2 p) (leb p 3) e in (leb-true 2 p (x .0), leb-true p 3 (x .1))
+clause-rank d p e = let x = both (leb 2 p) (leb p 3) e in (leb-true 2 p (x .0), leb-true p 3 (x .1))
 
 -- clauses and the end are silent: their own tops are all
-clauses-out : (k : ℕ) (env : Env) (n : ℕ) (rest : List Head) → length rest < k → Met (clauses ∷ []) rest [] → allTops (walk env n rest) ≡ outTops env n rest
+clauses-out : (k d : ℕ) (env : Env) (n : ℕ) (rest : List Head) → length rest < k → Met (clauses d ∷ []) rest [] → allTops (walk env n rest) ≡ outTops env n rest
 unfolding outTops fronts walk zipTops allTops topsFor under
-clauses-out zero env n rest l m = absurd (omega arith)
-clauses-out (suc k) env n [] l m = refl
-clauses-out (suc k) env n (h ∷ hs) l m =
+clauses-out zero d env n rest l m = absurd (omega arith)
+clauses-out (suc k) d env n [] l m = refl
+clauses-out (suc k) d env n (h ∷ hs) l m =
     let o = opened m in
-    let c = clause-rank (rank (place h)) (o .fits) in
-    let kids = map (wanted depthLimit) (roles h) in
-    let s = met-split kids (after h ++ []) hs [] (subst (λ (y : List Want). Met y hs []) (append-assoc kids (after h) []) (o .below)) in
-    let b = kids-behind depthLimit h hs (s .0) (s .1) env (suc n) in
+    let c = clause-rank d (rank (place h)) (o .fits) in
+    let kids = map (wanted d) (roles h) in
+    let s = met-split kids (after d h ++ []) hs [] (subst (λ (y : List Want). Met y hs []) (append-assoc kids (after d h) []) (o .below)) in
+    let b = kids-behind d h hs (s .0) (s .1) env (suc n) in
     let r = step env n h (take (arity h) (walk env (suc n) hs)) in
     let rs = drop (arity h) (walk env (suc n) hs) in
     let fs = drop (arity h) (fronts hs) in
-    let more : allTops rs ≡ zipTops fs rs = rw (b .results, b .fronts) (next c (s .0) (s .2) (omega (arith, b .long)) (suc n + b .lines) (clauses-out k env)) in
+    let more : allTops rs ≡ zipTops fs rs = rw (b .results, b .fronts) (next c (s .0) (s .2) (omega (arith, b .long)) (suc n + b .lines) (clauses-out k d env)) in
     ap (λ (y : List Top). r .tops ++ y) more ∙ ap (λ (y : Rule). topsFor y r ++ zipTops fs rs) (sym (top-silent h (omega (arith, c .1))))
   where
-    next : (2 ≤ rank (place h)) × (rank (place h) ≤ 3) → (left : List Head) → Met (after h ++ []) left [] → length left < k → (n : ℕ)
-        → ((n : ℕ) (rest : List Head) → length rest < k → Met (clauses ∷ []) rest [] → allTops (walk env n rest) ≡ zipTops (fronts rest) (walk env n rest))
+    next : (2 ≤ rank (place h)) × (rank (place h) ≤ 3) → (left : List Head) → Met (after d h ++ []) left [] → length left < k → (n : ℕ)
+        → ((n : ℕ) (rest : List Head) → length rest < k → Met (clauses d ∷ []) rest [] → allTops (walk env n rest) ≡ zipTops (fronts rest) (walk env n rest))
         → allTops (walk env n left) ≡ zipTops (fronts left) (walk env n left)
     next c left m l n ih = go (eqb (rank (place h)) 2) refl
       where
         go : (b : Bool) → eqb (rank (place h)) 2 ≡ b → allTops (walk env n left) ≡ zipTops (fronts left) (walk env n left)
-        go true e = ih n left l (subst (λ (y : List Want). Met (y ++ []) left []) (after-clause h (eqb-true (rank (place h)) 2 e)) m)
+        go true e = ih n left l (subst (λ (y : List Want). Met (y ++ []) left []) (after-clause d h (eqb-true (rank (place h)) 2 e)) m)
         go false e =
-            let z : left ≡ [] = none-left (subst (λ (y : List Want). Met (y ++ []) left []) (after-end h (omega (arith, c .0, c .1, eqb-false (rank (place h)) 2 e))) m) in
+            let z : left ≡ [] = none-left (subst (λ (y : List Want). Met (y ++ []) left []) (after-end d h (omega (arith, c .0, c .1, eqb-false (rank (place h)) 2 e))) m) in
             rw z
 
 -- an accepted sheet: the report starts at the clauses
-pub laid-out : (s : Bytes) (r : Outline) (x : Laid s r)
+pub laid-out : (d : ℕ) (s : Bytes) (r : Outline) (x : Laid d s r)
     → let hs = x .head ∷ (x .binds ++ x .rest) in
     (typing hs ≡ outTops (envOf hs) (2 + length (x .binds)) (x .rest)) × (allTests (results hs) ≡ allTests (walk (envOf hs) (2 + length (x .binds)) (x .rest)))
 unfolding typing results
-laid-out s r x =
+laid-out d s r x =
     let tail = x .binds ++ x .rest in
     let env = envOf (x .head ∷ tail) in
     let b = binds-out (x .ascending) env 2 (x .rest) in (
       bare-tops env 1 (x .head) tail (omega (arith, x .zero)) (λ d. omega (arith, x .zero))
           ∙ b .0
-          ∙ clauses-out (suc (length (x .rest))) env (2 + length (x .binds)) (x .rest) (omega arith) (x .met),
+          ∙ clauses-out (suc (length (x .rest))) d env (2 + length (x .binds)) (x .rest) (omega arith) (x .met),
       skip-tests env 1 (x .head) tail (top-silent (x .head) (omega (arith, x .zero))) ∙ b .1,
     )
 
 -- ## The report's way
 
--- the wants before a line to which the report comes: places inside a clause, none of an entry, not below an expression, and last the clauses
-pub data Open : List Want → Type 0 where
-  open-top : Open (clauses ∷ [])
-  open-in : {x : Place} {ws : List Want} → 3 < rank x → (rank x ≡ 11 → ⊥) → Open ws → Open (at x depthLimit ∷ ws)
+-- the wants before a line to which the report comes, all with the levels of the sheet left: places inside a clause, none of an entry, not below an expression, and last the clauses
+pub data Open (levels : ℕ) : List Want → Type 0 where
+  open-top : Open levels (clauses levels ∷ [])
+  open-in : {x : Place} {ws : List Want} → 3 < rank x → (rank x ≡ 11 → ⊥) → Open levels ws → Open levels (at x levels ∷ ws)
 
 -- the report is before these lines
-pub record Standing (hs : List Head) : Type 0 where
+pub record Standing (levels : ℕ) (hs : List Head) : Type 0 where
   pub wants : List Want
-  pub opens : Open wants
+  pub opens : Open levels wants
   pub met : Met wants hs []
 
 -- at the clauses
-pub stand-start : (s : Bytes) (r : Outline) (x : Laid s r) → Standing (x .rest)
-stand-start s r x = record { wants = clauses ∷ []; opens = open-top; met = x .met }
+pub stand-start : (levels : ℕ) (s : Bytes) (r : Outline) (x : Laid levels s r) → Standing levels (x .rest)
+stand-start levels s r x = record { wants = clauses levels ∷ []; opens = open-top; met = x .met }
 
 -- there is a line
-pub stand-some : (hs : List Head) → Standing hs → 0 < length hs
-stand-some hs x = go (x .opens) (x .met)
+pub stand-some : {levels : ℕ} (hs : List Head) → Standing levels hs → 0 < length hs
+stand-some {levels = levels} hs x = go (x .opens) (x .met)
   where
     some : {w : Want} {ws : List Want} → Met (w ∷ ws) hs [] → 0 < length hs
     some m = let s = some-there m in omega (arith, ap length (s .2))
 
-    go : {ws : List Want} → Open ws → Met ws hs [] → 0 < length hs
+    go : {ws : List Want} → Open levels ws → Met ws hs [] → 0 < length hs
     go open-top m = some m
     go (open-in a b y) m = some m
 
 -- the end is the last line
-pub stand-end : (h : Head) (hs : List Head) → Standing (h ∷ hs) → rank (place h) ≡ 3 → hs ≡ []
+pub stand-end : {levels : ℕ} (h : Head) (hs : List Head) → Standing levels (h ∷ hs) → rank (place h) ≡ 3 → hs ≡ []
 unfolding fits
-stand-end h hs x e = go (x .opens) (x .met)
+stand-end {levels = levels} h hs x e = go (x .opens) (x .met)
   where
-    go : {ws : List Want} → Open ws → Met ws (h ∷ hs) [] → hs ≡ []
-    go open-top m = met-end clauses h hs [] e m
+    go : {ws : List Want} → Open levels ws → Met ws (h ∷ hs) [] → hs ≡ []
+    go open-top m = met-end (clauses levels) h hs [] e m
     go (open-in {x = p} a b y) m = absurd (omega (arith, eqb-true (rank (place h)) (rank p) (opened m .fits)))
 
-open-kids : {c : ℕ} {ps : List Role} {ws : List Want} → Fine c ps → c ≡ 0 → Open ws → Open (map (wanted depthLimit) ps ++ ws)
+open-kids : {levels c : ℕ} {ps : List Role} {ws : List Want} → Fine c ps → c ≡ 0 → Open levels ws → Open levels (map (wanted levels) ps ++ ws)
 unfolding rank
 open-kids empty e y = y
 open-kids (also fine-plain x) e y = open-in {x = AtExpression} (omega arith) (λ z. omega arith) (open-kids x e y)
@@ -468,8 +467,8 @@ open-kids (also fine-answer x) e y = open-in {x = AtExpression} (omega arith) (�
 open-kids (also (fine-inner p a b o) x) e y = open-in a (λ z. omega (arith, o z)) (open-kids x e y)
 
 -- below a line that is no expression the depth is the same
-same-depth : (p : Place) → (rank p ≡ 13 → ⊥) → deeper (at p depthLimit) ≡ depthLimit
-same-depth p n = rw (ne-eqb (rank p) 13 n)
+same-depth : (levels : ℕ) (p : Place) → (rank p ≡ 13 → ⊥) → deeper (at p levels) ≡ levels
+same-depth levels p n = rw (ne-eqb (rank p) 13 n)
 
 -- the place of an expression
 expression : (p : Place) → rank p ≡ 13 → p ≡ AtExpression
@@ -481,56 +480,56 @@ between : (p : ℕ) → (2 ≤ p) × (p ≤ 3) → (p ≡ 3 → ⊥) → p ≡ 2
 between p c n = omega (arith, c .0, c .1, n)
 
 -- a line that is no expression and not the end is stepped over
-pub record Skipped (env : Env) (n : ℕ) (h : Head) (hs : List Head) : Type 0 where
-  pub next : Standing hs
+pub record Skipped (levels : ℕ) (env : Env) (n : ℕ) (h : Head) (hs : List Head) : Type 0 where
+  pub next : Standing levels hs
   pub tops : outTops env n (h ∷ hs) ≡ outTops env (suc n) hs
   pub tests : allTests (walk env n (h ∷ hs)) ≡ allTests (walk env (suc n) hs)
 
-pub stand-skip : (env : Env) (n : ℕ) (h : Head) (hs : List Head) → Standing (h ∷ hs) → (rank (place h) ≡ 13 → ⊥) → (rank (place h) ≡ 3 → ⊥) → Skipped env n h hs
+pub stand-skip : {levels : ℕ} (env : Env) (n : ℕ) (h : Head) (hs : List Head) → Standing levels (h ∷ hs) → (rank (place h) ≡ 13 → ⊥) → (rank (place h) ≡ 3 → ⊥) → Skipped levels env n h hs
 unfolding fits under
-stand-skip env n h hs x ne nl = go (x .opens) (x .met)
+stand-skip {levels = levels} env n h hs x ne nl = go (x .opens) (x .met)
   where
-    kids : {ws : List Want} → rule h ≡ silent → Open ws → Open (map (wanted depthLimit) (roles h) ++ ws)
+    kids : {ws : List Want} → rule h ≡ silent → Open levels ws → Open levels (map (wanted levels) (roles h) ++ ws)
     kids e y = open-kids (all-fine h) (ap kind e) y
 
-    done : (w : Want) (ws : List Want) → rule h ≡ silent → Met (w ∷ ws) (h ∷ hs) [] → Open (under w h ++ ws) → Skipped env n h hs
+    done : (w : Want) (ws : List Want) → rule h ≡ silent → Met (w ∷ ws) (h ∷ hs) [] → Open levels (under w h ++ ws) → Skipped levels env n h hs
     done w ws e m y = let s = out-skip env n w ws h hs [] e m in record { next = record { wants = under w h ++ ws; opens = y; met = opened m .below }; tops = s .0; tests = s .1 }
 
-    go : {ws : List Want} → Open ws → Met ws (h ∷ hs) [] → Skipped env n h hs
+    go : {ws : List Want} → Open levels ws → Met ws (h ∷ hs) [] → Skipped levels env n h hs
     go open-top m =
-        let c = clause-rank (rank (place h)) (opened m .fits) in
+        let c = clause-rank levels (rank (place h)) (opened m .fits) in
         let e : rule h ≡ silent = top-silent h (omega (arith, c .1)) in
         let two : rank (place h) ≡ 2 = between (rank (place h)) c nl in
-        let u : under clauses h ≡ map (wanted depthLimit) (roles h) ++ (clauses ∷ []) = ap (λ (z : List Want). map (wanted depthLimit) (roles h) ++ z) (after-clause h two) in
-        done clauses [] e m (subst Open (sym (append-nil (under clauses h))) (subst Open (sym u) (kids e open-top)))
+        let u : under (clauses levels) h ≡ map (wanted levels) (roles h) ++ (clauses levels ∷ []) = ap (λ (z : List Want). map (wanted levels) (roles h) ++ z) (after-clause levels h two) in
+        done (clauses levels) [] e m (subst (Open levels) (sym (append-nil (under (clauses levels) h))) (subst (Open levels) (sym u) (kids e open-top)))
     go (open-in {x = p} {ws = ws} a b y) m =
         let f = eqb-true (rank (place h)) (rank p) (opened m .fits) in
         let e : rule h ≡ silent = line-silent h ne (λ z. b (sym f ∙ z)) in
-        let u : under (at p depthLimit) h ≡ map (wanted depthLimit) (roles h) = inner-under (at p depthLimit) h a (opened m .fits) .0 ∙ ap (λ (d : ℕ). map (wanted d) (roles h)) (same-depth p (λ z. ne (f ∙ z))) in
-        done (at p depthLimit) ws e m (subst (λ (z : List Want). Open (z ++ ws)) (sym u) (kids e y))
+        let u : under (at p levels) h ≡ map (wanted levels) (roles h) = inner-under (at p levels) h a (opened m .fits) .0 ∙ ap (λ (d : ℕ). map (wanted d) (roles h)) (same-depth levels p (λ z. ne (f ∙ z))) in
+        done (at p levels) ws e m (subst (λ (z : List Want). Open levels (z ++ ws)) (sym u) (kids e y))
 
 -- an expression is typed, and the report is behind its tree
-pub record Typed (env : Env) (n : ℕ) (h : Head) (hs : List Head) (r : Res) : Type 0 where
+pub record Typed (levels : ℕ) (env : Env) (n : ℕ) (h : Head) (hs : List Head) (r : Res) : Type 0 where
   pub typing : Typing
   pub rule : rule h ≡ typed typing
   pub left : List Head
   pub lines : ℕ
   pub long : length (h ∷ hs) ≡ lines + length left
-  pub met : Met (at AtExpression depthLimit ∷ []) (h ∷ hs) left
-  pub next : Standing left
+  pub met : Met (at AtExpression levels ∷ []) (h ∷ hs) left
+  pub next : Standing levels left
   pub tops : outTops env n (h ∷ hs) ≡ topOf r ∷ outTops env (n + lines) left
   pub tests : allTests (walk env n (h ∷ hs)) ≡ r .tests ++ allTests (walk env (n + lines) left)
 
-pub stand-expr : (env : Env) (n : ℕ) (h : Head) (hs : List Head) → Standing (h ∷ hs) → rank (place h) ≡ 13 → Typed env n h hs (step env n h (take (arity h) (walk env (suc n) hs)))
+pub stand-expr : {levels : ℕ} (env : Env) (n : ℕ) (h : Head) (hs : List Head) → Standing levels (h ∷ hs) → rank (place h) ≡ 13 → Typed levels env n h hs (step env n h (take (arity h) (walk env (suc n) hs)))
 unfolding fits
-stand-expr env n h hs x e = go (x .opens) (x .met)
+stand-expr {levels = levels} env n h hs x e = go (x .opens) (x .met)
   where
-    go : {ws : List Want} → Open ws → Met ws (h ∷ hs) [] → Typed env n h hs (step env n h (take (arity h) (walk env (suc n) hs)))
-    go open-top m = absurd (omega (arith, clause-rank (rank (place h)) (opened m .fits) .1))
+    go : {ws : List Want} → Open levels ws → Met ws (h ∷ hs) [] → Typed levels env n h hs (step env n h (take (arity h) (walk env (suc n) hs)))
+    go open-top m = absurd (omega (arith, clause-rank levels (rank (place h)) (opened m .fits) .1))
     go (open-in {x = p} {ws = ws} a b y) m =
         let q = line-typed h e in
         let o = opened m in
-        let t = out-expr-met env n (at p depthLimit) ws h hs [] (q .0) (q .1) a m in
+        let t = out-expr-met env n (at p levels) ws h hs [] (q .0) (q .1) a m in
         let x : p ≡ AtExpression = expression p (sym (eqb-true (rank (place h)) (rank p) (o .fits)) ∙ e) in
         record {
           typing = q .0;
@@ -538,7 +537,7 @@ stand-expr env n h hs x e = go (x .opens) (x .met)
           left = t .left;
           lines = t .lines;
           long = t .long;
-          met = subst (λ (z : Place). Met (at z depthLimit ∷ []) (h ∷ hs) (t .left)) x (meets (o .fits) (o .beyond) (subst (λ (z : List Want). Met z hs (t .left)) (sym (append-nil (under (at p depthLimit) h))) (t .inside)));
+          met = subst (λ (z : Place). Met (at z levels ∷ []) (h ∷ hs) (t .left)) x (meets (o .fits) (o .beyond) (subst (λ (z : List Want). Met z hs (t .left)) (sym (append-nil (under (at p levels) h))) (t .inside)));
           next = record { wants = ws; opens = y; met = t .rest };
           tops = t .tops;
           tests = t .tests;

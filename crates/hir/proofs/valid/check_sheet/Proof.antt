@@ -32,7 +32,7 @@ returns c = first-stop _ _ (c .before .before .before .read-line .ensures) (c .b
 
 -- src/valid.rt:261:5
 check-rest-requires : tie.Need-check-rest-requires
-check-rest-requires c κs = (first-ask _ _ (c .before .before .read-line .ensures) (c .before .before .before .before .args .depth) _ (c .before .verdict .ensures) (omega (arith, c .if1 .left)) (c .before .before .before .before .pre .0), c .before .before .before .before .pre .1)
+check-rest-requires c κs = first-ask _ _ (c .before .before .read-line .ensures) (c .before .before .before .before .args .depth) _ (c .before .verdict .ensures) (omega (arith, c .if1 .left)) (c .before .before .before .before .pre)
 
 -- src/valid.rt:252:1
 returns-2 : tie.Need-returns-2

@@ -20,10 +20,10 @@ use Rattle.report.proofs.end_line.Reads as end-line-reads
 use Rattle.report.proofs.type_line.Reads as type-line-reads
 
 abbrev Inv-loop : tie.InvT-loop
-Inv-loop b sheet work₀ out₀ c₀ y₀ types₀ work out c y types = Going sheet b c₀ work₀ work out₀ out c y types
+Inv-loop b sheet levels work₀ out₀ c₀ y₀ types₀ work out c y types = Going levels sheet b c₀ work₀ work out₀ out c y types
 
 abbrev μ-loop : tie.MeasureT-loop
-μ-loop b sheet work₀ out₀ c₀ y₀ types₀ work out c y types = length sheet + 2 - c .line .0
+μ-loop b sheet levels work₀ out₀ c₀ y₀ types₀ work out c y types = length sheet + 2 - c .line .0
 
 -- src/statement.rt:38:5
 loop-holds : tie.Need-loop-holds Inv-loop μ-loop
