@@ -18,7 +18,7 @@ use Rattle.text.specs.declared.Dec.the-variants.{Is}
 use Rattle.text.proofs.Laws.{getD-slice, part-slice}
 use Rattle.text.proofs.Words.{number-on, number-end, hexes-on, hexes-end, decimal-one, decimal-more, capped-is}
 use Rattle.line.specs.declared.field.Val.{Val}
-use Rattle.line.specs.declared.field.Got.{Got}
+use Rattle.line.specs.declared.in_place.Got.{Got}
 use Rattle.line.specs.Fields.{fieldOf, valOf, valueAt}
 use Rattle.line.specs.Quick.{Clean, Stood, DigitsTo, NumberAs, HexTo, PieceTo, GotAs, Dashed, OptionalAs}
 use Rattle.line.proofs.FieldLaws.{dash-is, dash-not, dash-other}

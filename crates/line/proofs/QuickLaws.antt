@@ -23,7 +23,7 @@ use Rattle.line.specs.Rows.{codeFrom, numberIn, wordNo, numbered}
 use Rattle.line.specs.Fields.{fieldOf, fieldsOf, valOf, valueAt, nothingYet, storedIn}
 use Rattle.line.specs.Line.{pieces, FilledAs, ReadAs, seenAs}
 use Rattle.line.specs.Quick.{Clean, Stood, WordAt, ClosedAs, QuickBehind, RowIs, LeadAs, rowIn}
-use Rattle.line.specs.declared.line.Lead.{Lead}
+use Rattle.line.specs.declared.quick.Lead.{Lead}
 use Rattle.line.proofs.FillLaws.{agrees-start}
 use Rattle.line.proofs.LineLaws.{code-on, code-end, pieces-in, pieces-past, pieces-step, FillAt, field-on, field-put, field-end}
 use Rattle.line.proofs.ReadLaws.{read-filled, read-line}

@@ -15,8 +15,8 @@ use Rattle.line.specs.Fields.{fieldOf, valOf, valueAt}
 use Rattle.line.specs.Line.{ReadAs, seenAs}
 use Rattle.line.specs.declared.field.Val.{Val}
 use Rattle.line.specs.declared.field.Fields.{Fields}
-use Rattle.line.specs.declared.field.Got.{Got}
-use Rattle.line.specs.declared.line.Lead.{Lead}
+use Rattle.line.specs.declared.in_place.Got.{Got}
+use Rattle.line.specs.declared.quick.Lead.{Lead}
 use Rattle.line.specs.declared.line.Head.{Head as Seen}
 
 -- no byte from a to b ends a field or a line

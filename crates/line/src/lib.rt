@@ -1,6 +1,8 @@
 // One line of a sheet under a cursor.
 mod field;
+mod in_place;
 mod line;
+mod quick;
 mod table;
 
 pub use field::VarId;

@@ -10,15 +10,12 @@ use Rattle.builtins.proofs.accepts.Lts as lts
 use Rattle.builtins.proofs.accepts_class.Reads as accepts-class-reads
 use Rattle.builtins.proofs.class_of.Reads as class-of-reads
 
--- src/lib.rt:155:26
 class-of-requires : tie.Need-class-of-requires
 class-of-requires c κs = search needs
 
--- src/lib.rt:155:5
 accepts-class-requires : tie.Need-accepts-class-requires
 accepts-class-requires c κs = search needs
 
--- src/lib.rt:151:1
 returns : tie.Need-returns
 returns c t e =
     let s = shapeOf (c .before .before .args .shape) in

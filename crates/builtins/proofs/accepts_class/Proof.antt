@@ -7,19 +7,15 @@ use Rattle.builtins.proofs.accepts_class.Tie as tie
 use Rattle.builtins.proofs.accepts_class.Reads as reads
 use Rattle.builtins.proofs.accepts_class.Lts as lts
 
--- src/lib.rt:147:11
 mul-result : tie.Need-mul-result
 mul-result c = search needs
 
--- src/lib.rt:147:11
 add-result : tie.Need-add-result
 add-result c = search needs
 
--- src/lib.rt:147:5
 element-copy-out-result : tie.Need-element-copy-out-result
 element-copy-out-result c = search needs
 
--- src/lib.rt:142:1
 returns : tie.Need-returns
 unfolding text
 returns c = let st = c .before .before in marked (st .args .shape) (st .args .class) (st .pre .0) (st .pre .1)

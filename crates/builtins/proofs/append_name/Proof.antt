@@ -12,27 +12,21 @@ use Rattle.builtins.proofs.append_name.Lts as lts
 use Rattle.builtins.proofs.row_at.Reads as row-at-reads
 use Rattle.text.proofs.append.Reads as append-reads
 
--- src/lib.rt:118:9
 row-at-requires : tie.Need-row-at-requires
 row-at-requires c κs = search needs
 
--- src/lib.rt:121:29
 array-share-prefix-name : tie.Need-array-share-prefix-name
 array-share-prefix-name c = search needs
 
--- src/lib.rt:121:29
 slice-aggregate-append : tie.Need-slice-aggregate-append
 slice-aggregate-append c = let r = c .before .before .before .row-at in sym (length-take-le (r .result .len) (r .result .name) (omega (arith, r .ensures .short, r .ensures .wide)))
 
--- src/lib.rt:121:5
 append-requires : tie.Need-append-requires
 append-requires c κs = let r = c .before .before .before .row-at in let st = c .before .before .before .before .before in rw (r .ensures .named) (omega (arith, name-short (builtinOf (st .args .row)), st .pre .1))
 
--- src/lib.rt:114:1
 same-length : tie.Need-same-length
 same-length c = search needs
 
--- src/lib.rt:114:1
 returns : tie.Need-returns
 returns c = rw (c .before .before .before .before .before .before .row-at .ensures .named) at (c .before .before .append .ensures)
 

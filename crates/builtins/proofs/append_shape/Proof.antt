@@ -16,121 +16,93 @@ use Rattle.text.proofs.append.Reads as append-reads
 past : (n : ℕ) → (n ≡ 0 → ⊥) → (n ≡ 1 → ⊥) → (n ≡ 2 → ⊥) → (n ≡ 3 → ⊥) → (n ≡ 4 → ⊥) → (n ≡ 5 → ⊥) → 6 ≤ n
 past n a b c d e f = omega arith
 
--- src/lib.rt:164:38
 slice-aggregate-append : tie.Need-slice-aggregate-append
 slice-aggregate-append c = search needs
 
--- src/lib.rt:164:14
 append-requires : tie.Need-append-requires
 append-requires c κs = search needs
 
--- src/lib.rt:165:38
 slice-aggregate-append-2 : tie.Need-slice-aggregate-append-2
 slice-aggregate-append-2 c = search needs
 
--- src/lib.rt:165:14
 append-requires-2 : tie.Need-append-requires-2
 append-requires-2 c κs = search needs
 
--- src/lib.rt:166:38
 slice-aggregate-append-3 : tie.Need-slice-aggregate-append-3
 slice-aggregate-append-3 c = search needs
 
--- src/lib.rt:166:14
 append-requires-3 : tie.Need-append-requires-3
 append-requires-3 c κs = search needs
 
--- src/lib.rt:167:38
 slice-aggregate-append-4 : tie.Need-slice-aggregate-append-4
 slice-aggregate-append-4 c = search needs
 
--- src/lib.rt:167:14
 append-requires-4 : tie.Need-append-requires-4
 append-requires-4 c κs = search needs
 
--- src/lib.rt:168:38
 slice-aggregate-append-5 : tie.Need-slice-aggregate-append-5
 slice-aggregate-append-5 c = search needs
 
--- src/lib.rt:168:14
 append-requires-5 : tie.Need-append-requires-5
 append-requires-5 c κs = search needs
 
--- src/lib.rt:169:38
 slice-aggregate-append-6 : tie.Need-slice-aggregate-append-6
 slice-aggregate-append-6 c = search needs
 
--- src/lib.rt:169:14
 append-requires-6 : tie.Need-append-requires-6
 append-requires-6 c κs = search needs
 
--- src/lib.rt:170:38
 slice-aggregate-append-7 : tie.Need-slice-aggregate-append-7
 slice-aggregate-append-7 c = search needs
 
--- src/lib.rt:170:14
 append-requires-7 : tie.Need-append-requires-7
 append-requires-7 c κs = search needs
 
--- src/lib.rt:159:1
 same-length : tie.Need-same-length
 same-length c = search needs
 
--- src/lib.rt:159:1
 returns : tie.Need-returns
 unfolding describe shapeOf text
 returns c = rw (c .before .before .before .before .before .match .keys1) (c .before .before .append .ensures)
 
--- src/lib.rt:159:1
 same-length-2 : tie.Need-same-length-2
 same-length-2 c = search needs
 
--- src/lib.rt:159:1
 returns-2 : tie.Need-returns-2
 unfolding describe shapeOf text
 returns-2 c = rw (c .before .before .before .before .before .match .keys2) (c .before .before .append2 .ensures)
 
--- src/lib.rt:159:1
 same-length-3 : tie.Need-same-length-3
 same-length-3 c = search needs
 
--- src/lib.rt:159:1
 returns-3 : tie.Need-returns-3
 unfolding describe shapeOf text
 returns-3 c = rw (c .before .before .before .before .before .match .keys3) (c .before .before .append3 .ensures)
 
--- src/lib.rt:159:1
 same-length-4 : tie.Need-same-length-4
 same-length-4 c = search needs
 
--- src/lib.rt:159:1
 returns-4 : tie.Need-returns-4
 unfolding describe shapeOf text
 returns-4 c = rw (c .before .before .before .before .before .match .keys4) (c .before .before .append4 .ensures)
 
--- src/lib.rt:159:1
 same-length-5 : tie.Need-same-length-5
 same-length-5 c = search needs
 
--- src/lib.rt:159:1
 returns-5 : tie.Need-returns-5
 unfolding describe shapeOf text
 returns-5 c = rw (c .before .before .before .before .before .match .keys5) (c .before .before .append5 .ensures)
 
--- src/lib.rt:159:1
 same-length-6 : tie.Need-same-length-6
 same-length-6 c = search needs
 
--- src/lib.rt:159:1
 returns-6 : tie.Need-returns-6
 unfolding describe shapeOf text
 returns-6 c = rw (c .before .before .before .before .before .match .keys6) (c .before .before .append6 .ensures)
 
--- src/lib.rt:159:1
 same-length-7 : tie.Need-same-length-7
 same-length-7 c = search needs
 
--- src/lib.rt:159:1
 returns-7 : tie.Need-returns-7
 unfolding describe text
 returns-7 c =

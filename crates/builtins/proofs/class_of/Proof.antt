@@ -7,47 +7,38 @@ use Rattle.builtins.proofs.class_of.Tie as tie
 use Rattle.builtins.proofs.class_of.Reads as reads
 use Rattle.builtins.proofs.class_of.Lts as lts
 
--- src/lib.rt:125:1
 returns : tie.Need-returns
 unfolding classOf
 returns c = (rw (c .match .keys1), omega arith)
 
--- src/lib.rt:125:1
 returns-2 : tie.Need-returns-2
 unfolding classOf
 returns-2 c = (rw (c .match .keys2), omega arith)
 
--- src/lib.rt:125:1
 returns-3 : tie.Need-returns-3
 unfolding classOf
 returns-3 c = (rw (c .match .keys3), omega arith)
 
--- src/lib.rt:125:1
 returns-4 : tie.Need-returns-4
 unfolding classOf
 returns-4 c = (rw (c .match .keys4), omega arith)
 
--- src/lib.rt:125:1
 returns-5 : tie.Need-returns-5
 unfolding classOf
 returns-5 c = (rw (c .match .keys5), omega arith)
 
--- src/lib.rt:125:1
 returns-6 : tie.Need-returns-6
 unfolding classOf
 returns-6 c = (rw (c .match .keys6), omega arith)
 
--- src/lib.rt:125:1
 returns-7 : tie.Need-returns-7
 unfolding classOf
 returns-7 c = (rw (c .match .keys7), omega arith)
 
--- src/lib.rt:125:1
 returns-8 : tie.Need-returns-8
 unfolding classOf
 returns-8 c = (rw (c .match .keys8), omega arith)
 
--- src/lib.rt:125:1
 returns-9 : tie.Need-returns-9
 unfolding classOf
 returns-9 c =

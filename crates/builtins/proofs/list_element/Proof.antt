@@ -10,46 +10,36 @@ use Rattle.builtins.proofs.list_element.Lts as lts
 use Rattle.text.proofs.append.Reads as append-reads
 use Rattle.text.proofs.copy_in.Reads as copy-in-reads
 
--- src/lib.rt:180:12
 slice-read-if2 : tie.Need-slice-read-if2
 slice-read-if2 c = search needs
 
--- src/lib.rt:181:39
 sub-copy-in : tie.Need-sub-copy-in
 sub-copy-in c = let st = c .before .before .before .before .before in first-two (st .args .part .now) (st .args .len) (st .pre .types) (st .pre .first) (c .before .before .before .if1 .taken)
 
--- src/lib.rt:181:13
 copy-in-requires : tie.Need-copy-in-requires
 copy-in-requires c κs =
     let st = c .before .before .before .before .before in
     let two = first-two (st .args .part .now) (st .args .len) (st .pre .types) (st .pre .first) (c .before .before .before .if1 .taken) in
     (omega (arith, st .pre .within), omega (arith, st .pre .within), inl (omega arith))
 
--- src/lib.rt:182:20
 sub-result : tie.Need-sub-result
 sub-result c = let st = c .before .before .before .before .before .before .before .before in first-two (st .args .part .now) (st .args .len) (st .pre .types) (st .pre .first) (c .before .before .before .before .before .before .if1 .taken)
 
--- src/lib.rt:182:13
 same-length : tie.Need-same-length
 same-length c = search needs
 
--- src/lib.rt:182:13
 returns : tie.Need-returns
 returns c ts h = let st = c .before .before .before .before .before .before .before .before in element-returned (st .args .part .now) _ (st .args .len) ts h (c .before .before .before .before .before .before .if1 .taken) (c .before .before .before .before .if2 .taken) (c .before .before .copy-in .ensures)
 
--- src/lib.rt:185:27
 slice-aggregate-append : tie.Need-slice-aggregate-append
 slice-aggregate-append c = search needs
 
--- src/lib.rt:185:5
 append-requires : tie.Need-append-requires
 append-requires c κs = search needs
 
--- src/lib.rt:175:1
 same-length-2 : tie.Need-same-length-2
 same-length-2 c = search needs
 
--- src/lib.rt:175:1
 returns-2 : tie.Need-returns-2
 returns-2 c ts h =
     let st = c .before .before .before .before .before .before .before in

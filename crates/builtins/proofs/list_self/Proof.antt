@@ -9,27 +9,21 @@ use Rattle.builtins.proofs.list_self.Reads as reads
 use Rattle.builtins.proofs.list_self.Lts as lts
 use Rattle.text.proofs.append.Reads as append-reads
 
--- src/lib.rt:194:12
 slice-read-if2 : tie.Need-slice-read-if2
 slice-read-if2 c = search needs
 
--- src/lib.rt:195:13
 returns : tie.Need-returns
 returns c ts h = let st = c .before .before .before .before in self-returned (st .args .part .now) (st .args .len) ts h (c .before .before .if1 .taken) (c .if2 .taken)
 
--- src/lib.rt:198:27
 slice-aggregate-append : tie.Need-slice-aggregate-append
 slice-aggregate-append c = search needs
 
--- src/lib.rt:198:5
 append-requires : tie.Need-append-requires
 append-requires c κs = search needs
 
--- src/lib.rt:189:1
 same-length : tie.Need-same-length
 same-length c = search needs
 
--- src/lib.rt:189:1
 returns-2 : tie.Need-returns-2
 returns-2 c ts h =
     let st = c .before .before .before .before .before .before .before in

@@ -24,28 +24,22 @@ Inv-loop hex i₀ i = (i ≤ 7) × (lookup (map digitOf hex) ≡ lookupIn (folde
 abbrev μ-loop : tie.MeasureT-loop
 μ-loop hex i₀ i = 7 - i
 
--- src/lib.rt:84:5
 loop-holds : tie.Need-loop-holds Inv-loop μ-loop
 unfolding lookup
 loop-holds c = (omega arith, refl)
 
--- src/lib.rt:85:13
 row-at-requires : tie.Need-row-at-requires Inv-loop μ-loop
 row-at-requires c κs = search needs
 
--- src/lib.rt:88:37
 array-share-prefix-name : tie.Need-array-share-prefix-name Inv-loop μ-loop
 array-share-prefix-name c = let r = c .before .row-at in omega (arith, r .ensures .short, r .ensures .wide)
 
--- src/lib.rt:88:37
 slice-aggregate-same-hex-fold : tie.Need-slice-aggregate-same-hex-fold Inv-loop μ-loop
 slice-aggregate-same-hex-fold c = let r = c .before .before .row-at in sym (length-take-le (r .result .len) (r .result .name) (omega (arith, r .ensures .short, r .ensures .wide)))
 
--- src/lib.rt:88:12
 same-hex-fold-requires : tie.Need-same-hex-fold-requires Inv-loop μ-loop
 same-hex-fold-requires c κs = search needs
 
--- src/lib.rt:89:13
 returns : tie.Need-returns Inv-loop μ-loop
 returns c =
     let l = c .before .before .before .before .before .before in
@@ -53,15 +47,12 @@ returns c =
     let s = folded (map digitOf (l .before .before .args .hex .now)) in
     sym (ap rowOf (l .loop .inv .1) ∙ found (l .loop .i) s (c .before .before .before .before .before .loop-test .taken) (row-same (builtinOf (l .loop .i)) (r .result) s _ true (r .ensures) (c .before .same-hex-fold .ensures) (c .if1 .taken)))
 
--- src/lib.rt:91:9
 add-i : tie.Need-add-i Inv-loop μ-loop
 add-i c = search needs
 
--- src/lib.rt:84:5
 loop-less : tie.Need-loop-less Inv-loop μ-loop
 loop-less c = search needs
 
--- src/lib.rt:84:5
 loop-again : tie.Need-loop-again Inv-loop μ-loop
 loop-again c =
     let l = c .before .before .before .before .before .before in
@@ -69,7 +60,6 @@ loop-again c =
     let s = folded (map digitOf (l .before .before .args .hex .now)) in
     (search needs, l .loop .inv .1 ∙ passed (l .loop .i) s (c .before .before .before .before .before .loop-test .taken) (row-same (builtinOf (l .loop .i)) (r .result) s _ false (r .ensures) (c .before .same-hex-fold .ensures) (c .if1 .left)))
 
--- src/lib.rt:80:1
 returns-2 : tie.Need-returns-2 Inv-loop μ-loop
 returns-2 c =
     let l = c .before in

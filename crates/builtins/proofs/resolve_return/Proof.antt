@@ -18,43 +18,33 @@ use Rattle.text.proofs.append.Reads as append-reads
 self-last : (n : ℕ) → (n ≡ 0 → ⊥) → (n ≡ 1 → ⊥) → (n ≡ 2 → ⊥) → (n ≡ 3 → ⊥) → returnOf n ≡ returnOf 4
 self-last n a b c d = return-last n (omega arith) ∙ sym (return-last 4 (omega arith))
 
--- src/lib.rt:207:36
 slice-aggregate-append : tie.Need-slice-aggregate-append
 slice-aggregate-append c = search needs
 
--- src/lib.rt:207:14
 append-requires : tie.Need-append-requires
 append-requires c κs = search needs
 
--- src/lib.rt:208:36
 slice-aggregate-append-2 : tie.Need-slice-aggregate-append-2
 slice-aggregate-append-2 c = search needs
 
--- src/lib.rt:208:14
 append-requires-2 : tie.Need-append-requires-2
 append-requires-2 c κs = search needs
 
--- src/lib.rt:209:36
 slice-aggregate-append-3 : tie.Need-slice-aggregate-append-3
 slice-aggregate-append-3 c = search needs
 
--- src/lib.rt:209:14
 append-requires-3 : tie.Need-append-requires-3
 append-requires-3 c κs = search needs
 
--- src/lib.rt:210:14
 list-element-requires : tie.Need-list-element-requires
 list-element-requires c κs = search needs
 
--- src/lib.rt:211:14
 list-self-requires : tie.Need-list-self-requires
 list-self-requires c κs = search needs
 
--- src/lib.rt:202:1
 same-length : tie.Need-same-length
 same-length c = search needs
 
--- src/lib.rt:202:1
 returns : tie.Need-returns
 unfolding returnOf resolveReturn line lineTo letter
 returns c ts h =
@@ -62,11 +52,9 @@ returns c ts h =
     let w = c .before .before .append .ensures in
     rw (c .before .before .before .before .before .match .keys1) (front-text (st .args .part .now) _ _ _ (base tInt) (st .pre .room) refl (omega arith) (w .0) (w .1))
 
--- src/lib.rt:202:1
 same-length-2 : tie.Need-same-length-2
 same-length-2 c = search needs
 
--- src/lib.rt:202:1
 returns-2 : tie.Need-returns-2
 unfolding returnOf resolveReturn line lineTo letter
 returns-2 c ts h =
@@ -74,11 +62,9 @@ returns-2 c ts h =
     let w = c .before .before .append2 .ensures in
     rw (c .before .before .before .before .before .match .keys2) (front-text (st .args .part .now) _ _ _ (tList (base tString)) (st .pre .room) refl (omega arith) (w .0) (w .1))
 
--- src/lib.rt:202:1
 same-length-3 : tie.Need-same-length-3
 same-length-3 c = search needs
 
--- src/lib.rt:202:1
 returns-3 : tie.Need-returns-3
 unfolding returnOf resolveReturn line lineTo letter
 returns-3 c ts h =
@@ -86,19 +72,15 @@ returns-3 c ts h =
     let w = c .before .before .append3 .ensures in
     rw (c .before .before .before .before .before .match .keys3) (front-text (st .args .part .now) _ _ _ (tList (base tAny)) (st .pre .room) refl (omega arith) (w .0) (w .1))
 
--- src/lib.rt:202:1
 same-length-4 : tie.Need-same-length-4
 same-length-4 c = search needs
 
--- src/lib.rt:202:1
 returns-4 : tie.Need-returns-4
 returns-4 c ts h = rw (c .before .before .before .before .match .keys4) (c .before .before .list-element .ensures ts h)
 
--- src/lib.rt:202:1
 same-length-5 : tie.Need-same-length-5
 same-length-5 c = search needs
 
--- src/lib.rt:202:1
 returns-5 : tie.Need-returns-5
 returns-5 c ts h =
     let n = c .before .before .before .before .before .before .args .ret in

@@ -12,15 +12,12 @@ use Rattle.builtins.proofs.row_at.Tie as tie
 use Rattle.builtins.proofs.row_at.Reads as reads
 use Rattle.builtins.proofs.row_at.Lts as lts
 
--- src/lib.rt:76:5
 mul-result : tie.Need-mul-result
 mul-result c = search needs
 
--- src/lib.rt:76:5
 array-copy-out-result : tie.Need-array-copy-out-result
 array-copy-out-result c = search needs
 
--- src/lib.rt:72:1
 returns : tie.Need-returns
 unfolding signature text builtinOf shapeOf returnOf
 returns c =

@@ -18,59 +18,45 @@ Inv-loop sheet from to var lo₀ hi₀ least₀ most₀ turn₀ lo hi least most
 abbrev μ-loop : tie.MeasureT-loop
 μ-loop sheet from to var lo₀ hi₀ least₀ most₀ turn₀ lo hi least most turn = hi - lo
 
--- src/bind.rt:90:5
 loop-holds : tie.Need-loop-holds Inv-loop μ-loop
 loop-holds c = find-start _ _ _ _ (c .before .pre)
 
--- src/bind.rt:91:46
 cast-probe : tie.Need-cast-probe Inv-loop μ-loop
 cast-probe c = search needs
 
--- src/bind.rt:91:13
 probe-requires : tie.Need-probe-requires Inv-loop μ-loop
 probe-requires c κs = (c .before .loop-test .taken, search needs)
 
--- src/bind.rt:92:13
 line-start-requires : tie.Need-line-start-requires Inv-loop μ-loop
 line-start-requires c κs = (c .probe .ensures .0, omega (arith, c .probe .ensures .1, c .before .before .before .loop .inv .inside))
 
--- src/bind.rt:93:13
 read-line-requires : tie.Need-read-line-requires Inv-loop μ-loop
 read-line-requires c κs = omega (arith, c .line-start .ensures .upto, c .before .probe .ensures .1, c .before .before .before .before .loop .inv .inside)
 
--- src/bind.rt:95:9
 later-requires : tie.Need-later-requires Inv-loop μ-loop
 later-requires c κs = search needs
 
--- src/bind.rt:97:13
 returns : tie.Need-returns Inv-loop μ-loop
 returns c = λ b. found-hit _ _ _ _ _ (c .before .before .before .before .before .before .before .before .before .before .loop .inv .each b) _ _ (c .before .before .before .before .before .before .line-start .ensures) (c .before .before .before .before .before .before .before .probe .ensures .1) _ (c .before .before .before .before .before .read-line .ensures) (c .if1 .taken)
 
--- src/bind.rt:101:21
 cast-least : tie.Need-cast-least Inv-loop μ-loop
 cast-least c = search needs
 
--- src/bind.rt:90:5
 loop-less : tie.Need-loop-less Inv-loop μ-loop
 loop-less c = let o = found-on _ _ _ _ _ (c .before .before .before .before .before .before .before .before .before .before .before .before .before .before .loop .inv .each (c .before .before .before .before .before .before .before .before .before .before .before .before .before .before .before .before .pre)) _ _ (c .before .before .before .before .before .before .before .before .before .before .line-start .ensures) (c .before .before .before .before .before .before .before .before .before .before .before .probe .ensures .1) _ (c .before .before .before .before .before .before .before .before .before .read-line .ensures) in omega (arith, o .0, o .1)
 
--- src/bind.rt:90:5
 loop-again : tie.Need-loop-again Inv-loop μ-loop
 loop-again c = record { inside = c .before .before .before .before .before .before .before .before .before .before .before .before .before .before .loop .inv .inside; each = λ b. found-lower _ _ _ _ _ (c .before .before .before .before .before .before .before .before .before .before .before .before .before .before .loop .inv .each b) _ _ (c .before .before .before .before .before .before .before .before .before .before .line-start .ensures) (c .before .before .before .before .before .before .before .before .before .before .before .probe .ensures .1) _ (c .before .before .before .before .before .before .before .before .before .read-line .ensures) (c .before .if2 .taken) }
 
--- src/bind.rt:104:20
 cast-most : tie.Need-cast-most Inv-loop μ-loop
 cast-most c = search needs
 
--- src/bind.rt:90:5
 loop-less-2 : tie.Need-loop-less-2 Inv-loop μ-loop
 loop-less-2 c = omega (arith, c .before .before .before .before .before .before .before .before .before .before .line-start .ensures .upto, c .before .before .before .before .before .before .before .before .before .before .line-start .ensures .from, c .before .before .before .before .before .before .before .before .before .before .before .probe .ensures .1)
 
--- src/bind.rt:90:5
 loop-again-2 : tie.Need-loop-again-2 Inv-loop μ-loop
 loop-again-2 c = record { inside = omega (arith, c .before .before .before .before .before .before .before .before .before .before .line-start .ensures .upto, c .before .before .before .before .before .before .before .before .before .before .before .probe .ensures .1, c .before .before .before .before .before .before .before .before .before .before .before .before .before .before .loop .inv .inside); each = λ b. found-higher _ _ _ _ _ (c .before .before .before .before .before .before .before .before .before .before .before .before .before .before .loop .inv .each b) _ _ (c .before .before .before .before .before .before .before .before .before .before .line-start .ensures) (c .before .before .before .before .before .before .before .before .before .before .before .probe .ensures .1) _ (c .before .before .before .before .before .before .before .before .before .read-line .ensures) (omega (arith, c .before .if2 .left, c .before .before .before .before .if1 .left)) }
 
--- src/bind.rt:81:1
 returns-2 : tie.Need-returns-2 Inv-loop μ-loop
 returns-2 c = λ b. found-none _ _ _ _ _ (c .before .loop .inv .each b) (c .loop-test .left)
 

@@ -8,33 +8,26 @@ use Rattle.hir.proofs.bind.by_proportion.Tie as tie
 use Rattle.hir.proofs.bind.by_proportion.Reads as reads
 use Rattle.hir.proofs.bind.by_proportion.Lts as lts
 
--- src/bind.rt:48:9
 returns : tie.Need-returns
 returns c = search needs
 
--- src/bind.rt:51:9
 returns-2 : tie.Need-returns-2
 returns-2 c = search needs
 
--- src/bind.rt:54:9
 returns-3 : tie.Need-returns-3
 returns-3 c = search needs
 
--- src/bind.rt:56:5
 mul-result : tie.Need-mul-result
 mul-result c =
     let h : c .before .before .before .args .var - c .before .before .before .args .least ≤ 4294967296 = omega (arith, c .before .before .before .pre) in
     record { fits = omega (arith, mul-le-mul (c .if3 .left) h) }
 
--- src/bind.rt:56:29
 sub-result : tie.Need-sub-result
 sub-result c = search needs
 
--- src/bind.rt:56:5
 div-result : tie.Need-div-result
 div-result c = search needs
 
--- src/bind.rt:44:1
 returns-4 : tie.Need-returns-4
 returns-4 c = search needs
 

@@ -15,35 +15,27 @@ Inv-loop sheet lo mid p₀ p = (lo ≤ p) × (p ≤ mid) × (mid ≤ length shee
 abbrev μ-loop : tie.MeasureT-loop
 μ-loop sheet lo mid p₀ p = p
 
--- src/bind.rt:16:5
 loop-holds : tie.Need-loop-holds Inv-loop μ-loop
 loop-holds c = (c .pre .0, omega arith, c .pre .1, λ i a b d. omega arith)
 
--- src/bind.rt:17:18
 sub-if1 : tie.Need-sub-if1 Inv-loop μ-loop
 sub-if1 c = omega arith
 
--- src/bind.rt:17:12
 shared-slice-read-if1 : tie.Need-shared-slice-read-if1 Inv-loop μ-loop
 shared-slice-read-if1 c = omega arith
 
--- src/bind.rt:18:13
 returns : tie.Need-returns Inv-loop μ-loop
 returns c = let l = c .before .before .before in record { from = l .loop .inv .0; upto = l .loop .inv .1; edge = λ x. c .if1 .taken; none = l .loop .inv .3 }
 
--- src/bind.rt:20:9
 sub-p : tie.Need-sub-p Inv-loop μ-loop
 sub-p c = search needs
 
--- src/bind.rt:16:5
 loop-less : tie.Need-loop-less Inv-loop μ-loop
 loop-less c = search needs
 
--- src/bind.rt:16:5
 loop-again : tie.Need-loop-again Inv-loop μ-loop
 loop-again c = let l = c .before .before .before in (omega arith, omega (arith, l .loop .inv .1), l .loop .inv .2, start-on (l .before .args .sheet .now) _ _ (l .loop .inv .3) (c .if1 .left))
 
--- src/bind.rt:11:1
 returns-2 : tie.Need-returns-2 Inv-loop μ-loop
 returns-2 c = let l = c .before in record { from = l .loop .inv .0; upto = l .loop .inv .1; edge = λ x. absurd (omega arith); none = l .loop .inv .3 }
 

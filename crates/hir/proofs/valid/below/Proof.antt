@@ -4,15 +4,12 @@ use Rattle.hir.proofs.valid.below.Tie as tie
 use Rattle.hir.proofs.valid.below.Reads as reads
 use Rattle.hir.proofs.valid.below.Lts as lts
 
--- src/valid.rt:98:22
 sub-result : tie.Need-sub-result
 sub-result c = c .before .pre (c .if1 .taken)
 
--- src/valid.rt:94:1
 returns : tie.Need-returns
 returns c = rw (eq-eqb _ _ (c .if1 .taken))
 
--- src/valid.rt:94:1
 returns-2 : tie.Need-returns-2
 returns-2 c = rw (ne-eqb _ _ (c .if1 .left))
 

@@ -18,47 +18,36 @@ Inv-loop sheet at p₀ l₀ least₀ p l least = BindsInv sheet p₀ (l₀ .0) p
 abbrev μ-loop : tie.MeasureT-loop
 μ-loop sheet at p₀ l₀ least₀ p l least = length sheet - p
 
--- src/valid.rt:140:5
 loop-holds : tie.Need-loop-holds Inv-loop μ-loop
 loop-holds c = binds-start _ _ _ (c .before .pre)
 
--- src/valid.rt:141:13
 read-line-requires : tie.Need-read-line-requires Inv-loop μ-loop
 read-line-requires c κs = c .loop .inv .inside
 
--- src/valid.rt:142:12
 class-of-requires : tie.Need-class-of-requires Inv-loop μ-loop
 class-of-requires c κs = search needs
 
--- src/valid.rt:143:13
 returns : tie.Need-returns Inv-loop μ-loop
 returns c = bound-done _ _ _ _ _ _ (c .before .before .before .loop .inv) _ (c .before .before .read-line .ensures) (λ e. c .if1 .taken (c .before .class-of .ensures ∙ e))
 
--- src/valid.rt:146:13
 returns-2 : tie.Need-returns-2 Inv-loop μ-loop
 returns-2 c = bound-wrong _ _ _ _ _ _ (c .before .before .before .before .before .loop .inv) _ (c .before .before .before .before .read-line .ensures) (sym (c .before .before .before .class-of .ensures) ∙ c .before .before .if1 .left) (c .if2 .taken)
 
--- src/valid.rt:152:17
 cast-n : tie.Need-cast-n Inv-loop μ-loop
 cast-n c = search needs
 
--- src/valid.rt:154:13
 returns-3 : tie.Need-returns-3 Inv-loop μ-loop
 returns-3 c = bound-low _ _ _ _ _ _ (c .before .before .before .before .before .before .before .before .loop .inv) _ (c .before .before .before .before .before .before .before .read-line .ensures) (sym (c .before .before .before .before .before .before .class-of .ensures) ∙ c .before .before .before .before .before .if1 .left) (c .before .before .before .if2 .left) (c .if3 .taken)
 
--- src/valid.rt:156:17
 add-least : tie.Need-add-least Inv-loop μ-loop
 add-least c = search needs
 
--- src/valid.rt:158:9
 next-line-requires : tie.Need-next-line-requires Inv-loop μ-loop
 next-line-requires c κs = bound-room _ _ _ _ _ _ (c .before .before .before .before .before .before .before .before .loop .inv) _ (c .before .before .before .before .before .before .before .read-line .ensures)
 
--- src/valid.rt:140:5
 loop-less : tie.Need-loop-less Inv-loop μ-loop
 loop-less c = bound-less _ _ _ _ _ _ (c .before .before .before .before .before .before .before .before .before .loop .inv) _ (c .before .before .before .before .before .before .before .before .read-line .ensures) (sym (c .before .before .before .before .before .before .before .class-of .ensures) ∙ c .before .before .before .before .before .before .if1 .left) (c .before .before .before .before .if2 .left) (c .before .if3 .left)
 
--- src/valid.rt:140:5
 loop-again : tie.Need-loop-again Inv-loop μ-loop
 loop-again c = bound-on _ _ _ _ _ _ (c .before .before .before .before .before .before .before .before .before .loop .inv) _ (c .before .before .before .before .before .before .before .before .read-line .ensures) (sym (c .before .before .before .before .before .before .before .class-of .ensures) ∙ c .before .before .before .before .before .before .if1 .left) (c .before .before .before .before .if2 .left) (c .before .if3 .left) _ (c .next-line .ensures)
 

@@ -23,59 +23,45 @@ Inv-loop sheet at depth p₀ l₀ p l = ClausesInv depth sheet p₀ (l₀ .0) p 
 abbrev μ-loop : tie.MeasureT-loop
 μ-loop sheet at depth p₀ l₀ p l = length sheet - p
 
--- src/valid.rt:186:5
 loop-holds : tie.Need-loop-holds Inv-loop μ-loop
 loop-holds c = clauses-start _ _ _ _ (c .before .pre)
 
--- src/valid.rt:187:13
 read-line-requires : tie.Need-read-line-requires Inv-loop μ-loop
 read-line-requires c κs = c .loop .inv .inside
 
--- src/valid.rt:188:12
 class-of-requires : tie.Need-class-of-requires Inv-loop μ-loop
 class-of-requires c κs = search needs
 
--- src/valid.rt:189:13
 check-end-requires : tie.Need-check-end-requires Inv-loop μ-loop
 check-end-requires c κs = clause-room _ _ _ _ _ _ (c .before .before .before .loop .inv) _ (c .before .before .read-line .ensures)
 
--- src/valid.rt:189:13
 returns : tie.Need-returns Inv-loop μ-loop
 returns c = rw (c .check-end .ensures) (clause-end _ _ _ _ _ _ (c .before .before .before .before .loop .inv) _ (c .before .before .before .read-line .ensures) (sym (c .before .before .class-of .ensures) ∙ c .before .if1 .taken) _ refl)
 
--- src/valid.rt:191:13
 verdict-requires : tie.Need-verdict-requires Inv-loop μ-loop
 verdict-requires c κs = let s = c .before .before .before .before .before .args .sheet .now in let p = c .before .before .before .loop .p in word-known s p (c .before .before .read-line .result) (split 10 (drop p s)) (c .before .before .read-line .ensures)
 
--- src/valid.rt:193:13
 returns-2 : tie.Need-returns-2 Inv-loop μ-loop
 returns-2 c = clause-stop _ _ _ _ _ _ (c .before .before .before .before .before .loop .inv) _ (c .before .before .before .before .read-line .ensures) (λ e. c .before .before .if1 .left (c .before .before .before .class-of .ensures ∙ e)) _ (c .before .verdict .ensures) (c .if2 .taken)
 
--- src/valid.rt:195:36
 next-line-requires : tie.Need-next-line-requires Inv-loop μ-loop
 next-line-requires c κs = clause-room _ _ _ _ _ _ (c .before .before .before .before .before .loop .inv) _ (c .before .before .before .before .read-line .ensures)
 
--- src/valid.rt:195:15
 check-kids-requires : tie.Need-check-kids-requires Inv-loop μ-loop
 check-kids-requires c κs = clause-ask _ _ _ _ _ _ (c .before .before .before .before .before .before .loop .inv) _ (c .before .before .before .before .before .read-line .ensures) (λ e. c .before .before .before .if1 .left (c .before .before .before .before .class-of .ensures ∙ e)) _ (c .before .before .verdict .ensures) (c .before .if2 .left) _ (c .next-line .ensures)
 
--- src/valid.rt:196:27
 enum-known-next : tie.Need-enum-known-next Inv-loop μ-loop
 enum-known-next c = search needs
 
--- src/valid.rt:186:5
 loop-less : tie.Need-loop-less Inv-loop μ-loop
 loop-less c = clause-less _ _ _ _ _ _ (c .before .before .before .before .before .before .before .before .before .before .loop .inv) _ (c .before .before .before .before .before .before .before .before .before .read-line .ensures) (λ e. c .before .before .before .before .before .before .before .if1 .left (c .before .before .before .before .before .before .before .before .class-of .ensures ∙ e)) _ (c .before .before .before .before .before .before .verdict .ensures) (c .before .before .before .before .before .if2 .left) _ (c .before .before .before .before .next-line .ensures) _ (c .before .before .before .check-kids .ensures) _ _ (c .before .next .given .1)
 
--- src/valid.rt:186:5
 loop-again : tie.Need-loop-again Inv-loop μ-loop
 loop-again c = clause-on _ _ _ _ _ _ (c .before .before .before .before .before .before .before .before .before .before .loop .inv) _ (c .before .before .before .before .before .before .before .before .before .read-line .ensures) (λ e. c .before .before .before .before .before .before .before .if1 .left (c .before .before .before .before .before .before .before .before .class-of .ensures ∙ e)) _ (c .before .before .before .before .before .before .verdict .ensures) (c .before .before .before .before .before .if2 .left) _ (c .before .before .before .before .next-line .ensures) _ (c .before .before .before .check-kids .ensures) _ _ (c .before .next .given .1)
 
--- src/valid.rt:200:30
 enum-known-why : tie.Need-enum-known-why Inv-loop μ-loop
 enum-known-why c = search needs
 
--- src/valid.rt:201:17
 returns-3 : tie.Need-returns-3 Inv-loop μ-loop
 returns-3 c = clause-refused _ _ _ _ _ _ (c .before .before .before .before .before .before .before .before .before .before .loop .inv) _ (c .before .before .before .before .before .before .before .before .before .read-line .ensures) (λ e. c .before .before .before .before .before .before .before .if1 .left (c .before .before .before .before .before .before .before .before .class-of .ensures ∙ e)) _ (c .before .before .before .before .before .before .verdict .ensures) (c .before .before .before .before .before .if2 .left) _ (c .before .before .before .before .next-line .ensures) _ (c .before .before .before .check-kids .ensures) _ _ (c .before .why .given .1)
 

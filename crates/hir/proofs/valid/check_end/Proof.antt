@@ -10,19 +10,15 @@ use Rattle.hir.proofs.valid.check_end.Reads as reads
 use Rattle.hir.proofs.valid.check_end.Lts as lts
 use Rattle.hir.proofs.valid.next_line.Reads as next-line-reads
 
--- src/valid.rt:168:9
 returns : tie.Need-returns
 returns c = rw (ne-eqb _ _ (c .if1 .taken))
 
--- src/valid.rt:173:19
 next-line-requires : tie.Need-next-line-requires
 next-line-requires c κs = search needs
 
--- src/valid.rt:171:9
 returns-2 : tie.Need-returns-2
 returns-2 c = rw (eq-eqb _ _ (c .before .before .before .if1 .left), ne-eqb _ _ (c .before .if2 .taken)) (ap (λ (x : ℕ). Refused 3 (record { 0 = x })) (c .next-line .ensures))
 
--- src/valid.rt:163:1
 returns-3 : tie.Need-returns-3
 returns-3 c = rw (eq-eqb _ _ (c .before .before .if1 .left), eq-eqb _ _ (c .if2 .left))
 

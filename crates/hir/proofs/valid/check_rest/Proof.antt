@@ -10,47 +10,36 @@ use Rattle.hir.proofs.valid.check_binds.Reads as check-binds-reads
 use Rattle.hir.proofs.valid.check_clauses.Reads as check-clauses-reads
 use Rattle.hir.proofs.valid.refused.Reads as refused-reads
 
--- src/valid.rt:235:11
 check-binds-requires : tie.Need-check-binds-requires
 check-binds-requires c κs = c .before .pre
 
--- src/valid.rt:236:26
 enum-known-why : tie.Need-enum-known-why
 enum-known-why c = search needs
 
--- src/valid.rt:236:41
 refused-requires : tie.Need-refused-requires
 refused-requires c κs = search needs
 
--- src/valid.rt:237:23
 enum-known-next : tie.Need-enum-known-next
 enum-known-next c = search needs
 
--- src/valid.rt:238:19
 check-clauses-requires : tie.Need-check-clauses-requires
 check-clauses-requires c κs = rest-ask 0 _ _ _ (c .before .before .before .check-binds .ensures) _ _ (c .before .next .given .1) (c .before .before .before .before .before .pre)
 
--- src/valid.rt:239:34
 enum-known-why-2 : tie.Need-enum-known-why-2
 enum-known-why-2 c = search needs
 
--- src/valid.rt:239:53
 refused-requires-2 : tie.Need-refused-requires-2
 refused-requires-2 c κs = search needs
 
--- src/valid.rt:240:53
 enum-told : tie.Need-enum-told
 enum-told c = search needs
 
--- src/valid.rt:231:1
 returns : tie.Need-returns
 returns c = rest-binds _ _ _ _ (c .before .before .before .before .check-binds .ensures) _ _ (c .before .before .why .given .1) _ (c .refused .ensures .0) (c .refused .ensures .1)
 
--- src/valid.rt:231:1
 returns-2 : tie.Need-returns-2
 returns-2 c = rest-clauses _ _ _ _ (c .before .before .before .before .before .before .before .before .check-binds .ensures) _ _ (c .before .before .before .before .before .before .next .given .1) _ (c .before .before .before .before .check-clauses .ensures) _ _ (c .before .before .why2 .given .1) _ (c .refused2 .ensures .0) (c .refused2 .ensures .1)
 
--- src/valid.rt:231:1
 returns-3 : tie.Need-returns-3
 returns-3 c = rest-fine _ _ _ _ (c .before .before .before .before .before .before .check-binds .ensures) _ _ (c .before .before .before .before .next .given .1) _ (c .before .before .check-clauses .ensures) _ _ (c .enum-told .given .1)
 

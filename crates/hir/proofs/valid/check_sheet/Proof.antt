@@ -14,27 +14,21 @@ use Rattle.hir.proofs.valid.refused.Reads as refused-reads
 use Rattle.hir.proofs.valid.verdict.Reads as verdict-reads
 use Rattle.line.proofs.read_line.Reads as read-line-reads
 
--- src/valid.rt:256:9
 read-line-requires : tie.Need-read-line-requires
 read-line-requires c κs = search needs
 
--- src/valid.rt:257:9
 verdict-requires : tie.Need-verdict-requires
 verdict-requires c κs = let s = c .before .before .args .sheet .now in word-known s 0 (c .read-line .result) (split 10 (drop 0 s)) (c .read-line .ensures)
 
--- src/valid.rt:259:9
 refused-requires : tie.Need-refused-requires
 refused-requires c κs = search needs
 
--- src/valid.rt:259:9
 returns : tie.Need-returns
 returns c = first-stop _ _ (c .before .before .before .read-line .ensures) (c .before .before .before .before .before .args .depth) _ (c .before .before .verdict .ensures) (c .before .if1 .taken) _ (c .refused .ensures .0) (c .refused .ensures .1)
 
--- src/valid.rt:261:5
 check-rest-requires : tie.Need-check-rest-requires
 check-rest-requires c κs = first-ask _ _ (c .before .before .read-line .ensures) (c .before .before .before .before .args .depth) _ (c .before .verdict .ensures) (omega (arith, c .if1 .left)) (c .before .before .before .before .pre)
 
--- src/valid.rt:252:1
 returns-2 : tie.Need-returns-2
 returns-2 c = first-on _ _ (c .before .before .before .read-line .ensures) (c .before .before .before .before .before .args .depth) _ (c .before .before .verdict .ensures) (omega (arith, c .before .if1 .left)) _ (c .check-rest .ensures)
 

@@ -4,11 +4,9 @@ use Rattle.hir.proofs.valid.class_at.Tie as tie
 use Rattle.hir.proofs.valid.class_at.Reads as reads
 use Rattle.hir.proofs.valid.class_at.Lts as lts
 
--- src/valid.rt:68:1
 returns : tie.Need-returns
 returns c = rw (lt-ltb _ _ (c .if1 .taken))
 
--- src/valid.rt:68:1
 returns-2 : tie.Need-returns-2
 returns-2 c = rw (le-ltb _ _ (c .if1 .left))
 

@@ -9,27 +9,21 @@ use Rattle.hir.proofs.valid.group_size.Tie as tie
 use Rattle.hir.proofs.valid.group_size.Reads as reads
 use Rattle.hir.proofs.valid.group_size.Lts as lts
 
--- src/valid.rt:48:17
 mul-result : tie.Need-mul-result
 mul-result c = omega (arith, product-small (c .args .g / 2 % 4) (c .args .count) (omega arith) (c .pre .0))
 
--- src/valid.rt:48:5
 add-result : tie.Need-add-result
 add-result c = omega (arith, product-small (c .args .g / 2 % 4) (c .args .count) (omega arith) (c .pre .0))
 
--- src/valid.rt:48:42
 add-result-2 : tie.Need-add-result-2
 add-result-2 c = search needs
 
--- src/valid.rt:48:33
 mul-result-2 : tie.Need-mul-result-2
 mul-result-2 c = omega (arith, bits-small (c .args .g % 2) (c .args .flag % 2 + c .args .flag / 2) (omega arith) (omega arith))
 
--- src/valid.rt:48:5
 add-result-3 : tie.Need-add-result-3
 add-result-3 c = omega (arith, product-small (c .args .g / 2 % 4) (c .args .count) (omega arith) (c .pre .0), bits-small (c .args .g % 2) (c .args .flag % 2 + c .args .flag / 2) (omega arith) (omega arith))
 
--- src/valid.rt:42:1
 returns : tie.Need-returns
 unfolding groupSize
 returns c = (refl, omega (arith, product-small (c .args .g / 2 % 4) (c .args .count) (omega arith) (c .pre .0), bits-small (c .args .g % 2) (c .args .flag % 2 + c .args .flag / 2) (omega arith) (omega arith)))

@@ -11,27 +11,21 @@ use Rattle.hir.proofs.valid.group_size.Reads as group-size-reads
 use Rattle.line.proofs.group1_of.Reads as group1-of-reads
 use Rattle.line.proofs.group2_of.Reads as group2-of-reads
 
--- src/valid.rt:56:9
 group1-of-requires : tie.Need-group1-of-requires
 group1-of-requires c κs = search needs
 
--- src/valid.rt:57:9
 group2-of-requires : tie.Need-group2-of-requires
 group2-of-requires c κs = search needs
 
--- src/valid.rt:58:9
 group-size-requires : tie.Need-group-size-requires
 group-size-requires c κs = search needs
 
--- src/valid.rt:61:22
 group-size-requires-2 : tie.Need-group-size-requires-2
 group-size-requires-2 c κs = search needs
 
--- src/valid.rt:61:14
 add-t6 : tie.Need-add-t6
 add-t6 c = search needs
 
--- src/valid.rt:52:1
 returns : tie.Need-returns
 returns c = let a = c .before .before .before .before .args .h in record { first = c .before .group-size .ensures .0 ∙ ap (λ (g : ℕ). groupSize g (a .count) (a .flag)) (c .before .before .before .group1-of .ensures); all = ap (λ (x : ℕ). c .before .group-size .result + x) (c .group-size2 .ensures .0 ∙ ap (λ (g : ℕ). groupSize g (a .count) (a .flag)) (c .before .before .group2-of .ensures)); class1 = ap (λ (g : ℕ). g / 32) (c .before .before .before .group1-of .ensures); class2 = ap (λ (g : ℕ). g / 32) (c .before .before .group2-of .ensures); small = omega (arith, c .before .group-size .ensures .1, c .group-size2 .ensures .1) }
 

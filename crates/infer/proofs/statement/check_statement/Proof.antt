@@ -25,95 +25,72 @@ Inv-loop b sheet levels work₀ out₀ c₀ y₀ types₀ work out c y types = G
 abbrev μ-loop : tie.MeasureT-loop
 μ-loop b sheet levels work₀ out₀ c₀ y₀ types₀ work out c y types = length sheet + 2 - c .line .0
 
--- src/statement.rt:38:5
 loop-holds : tie.Need-loop-holds Inv-loop μ-loop
 loop-holds c = record { long = refl; as-long = refl; mid = λ a env v. mid-start a env _ }
 
--- src/statement.rt:40:13
 read-line-requires : tie.Need-read-line-requires Inv-loop μ-loop
 read-line-requires c κs = let g = c .loop .inv in let p = c .before .before .before .before .pre in let m = g .mid (p .at) (p .env) (p .bound) in omega (arith, mid-inside m)
 
--- src/statement.rt:41:13
 class-of-requires : tie.Need-class-of-requires Inv-loop μ-loop
 class-of-requires c κs = search needs
 
--- src/statement.rt:43:33
 end-line-requires : tie.Need-end-line-requires Inv-loop μ-loop
 end-line-requires c κs = let g = c .before .before .before .before .loop .inv in let p = c .before .before .before .before .before .before .before .before .pre in let m = g .mid (p .at) (p .env) (p .bound) in mid-fill m
 
--- src/statement.rt:43:13
 same-length : tie.Need-same-length Inv-loop μ-loop
 same-length c = c .before .before .before .before .before .before .before .loop .inv .long
 
--- src/statement.rt:43:13
 same-length-2 : tie.Need-same-length-2 Inv-loop μ-loop
 same-length-2 c = as-long (c .before .before .end-line .ensures) ∙ c .before .before .before .before .before .before .before .loop .inv .as-long
 
--- src/statement.rt:43:13
 returns : tie.Need-returns Inv-loop μ-loop
 returns c = let g = c .before .before .before .before .before .before .before .loop .inv in let w = c .before .before .end-line .ensures in record { long = g .long; as-long = as-long w ∙ g .as-long; made = λ a env v. mid-end (g .mid a env v) _ (c .before .before .before .before .before .before .read-line .ensures) (sym (c .before .before .before .before .before .class-of .ensures) ∙ c .before .before .before .before .if1 .taken) w }
 
--- src/statement.rt:46:19
 infer-expr-requires : tie.Need-infer-expr-requires Inv-loop μ-loop
 infer-expr-requires c κs = let g = c .before .before .before .before .before .before .loop .inv in let p = c .before .before .before .before .before .before .before .before .before .before .pre in let m = g .mid (p .at) (p .env) (p .bound) in mid-ask m _ (c .before .before .before .before .before .read-line .ensures) (sym (c .before .before .before .before .class-of .ensures) ∙ c .before .before .if2 .taken) _ _ (p .bound) (omega (arith, g .long, p .room))
 
--- src/statement.rt:47:30
 enum-known-len : tie.Need-enum-known-len Inv-loop μ-loop
 enum-known-len c = search needs
 
--- src/statement.rt:49:74
 slice-reshare-prefix-type-line : tie.Need-slice-reshare-prefix-type-line Inv-loop μ-loop
 slice-reshare-prefix-type-line c = let g = c .before .before .before .before .before .before .before .before .before .before .before .before .before .before .before .loop .inv in let p = c .before .before .before .before .before .before .before .before .before .before .before .before .before .before .before .before .before .before .before .pre in let m = g .mid (p .at) (p .env) (p .bound) in let x = c .before .before .before .before .before .before .before .before .before .before .before .before .before .before .read-line .ensures in let e = sym (c .before .before .before .before .before .before .before .before .before .before .before .before .before .class-of .ensures) ∙ c .before .before .before .before .before .before .before .before .before .before .before .if2 .taken in let w = c .before .before .before .before .before .before .before .before .infer-expr .ensures in let f = c .before .before .len .given .1 in mid-len m _ x e (p .bound) w f
 
--- src/statement.rt:49:74
 slice-aggregate-type-line : tie.Need-slice-aggregate-type-line Inv-loop μ-loop
 slice-aggregate-type-line c = let g = c .before .before .before .before .before .before .before .before .before .before .before .before .before .before .before .before .loop .inv in let p = c .before .before .before .before .before .before .before .before .before .before .before .before .before .before .before .before .before .before .before .before .pre in let m = g .mid (p .at) (p .env) (p .bound) in let x = c .before .before .before .before .before .before .before .before .before .before .before .before .before .before .before .read-line .ensures in let e = sym (c .before .before .before .before .before .before .before .before .before .before .before .before .before .before .class-of .ensures) ∙ c .before .before .before .before .before .before .before .before .before .before .before .before .if2 .taken in let w = c .before .before .before .before .before .before .before .before .before .infer-expr .ensures in let f = c .before .before .before .len .given .1 in sym (length-take-le _ _ (mid-len m _ x e (p .bound) w f))
 
--- src/statement.rt:49:39
 type-line-requires : tie.Need-type-line-requires Inv-loop μ-loop
 type-line-requires c κs = let g = c .before .before .before .before .before .before .before .before .before .before .before .before .before .before .before .before .loop .inv in let p = c .before .before .before .before .before .before .before .before .before .before .before .before .before .before .before .before .before .before .before .before .pre in let m = g .mid (p .at) (p .env) (p .bound) in let x = c .before .before .before .before .before .before .before .before .before .before .before .before .before .before .before .read-line .ensures in let e = sym (c .before .before .before .before .before .before .before .before .before .before .before .before .before .before .class-of .ensures) ∙ c .before .before .before .before .before .before .before .before .before .before .before .before .if2 .taken in let w = c .before .before .before .before .before .before .before .before .before .infer-expr .ensures in let f = c .before .before .before .len .given .1 in mid-room m _ x e (p .bound) w f
 
--- src/statement.rt:49:21
 filled-requires : tie.Need-filled-requires Inv-loop μ-loop
 filled-requires c κs = search needs
 
--- src/statement.rt:50:21
 add-types : tie.Need-add-types Inv-loop μ-loop
 add-types c = let g = c .before .before .before .before .before .before .before .before .before .before .before .before .before .before .before .before .before .before .before .before .loop .inv in let p = c .before .before .before .before .before .before .before .before .before .before .before .before .before .before .before .before .before .before .before .before .before .before .before .before .pre in omega (arith, mid-types (g .mid (p .at) (p .env) (p .bound)))
 
--- src/statement.rt:38:5
 loop-less : tie.Need-loop-less Inv-loop μ-loop
 loop-less c = let g = c .before .before .before .before .before .before .before .before .before .before .before .before .before .before .before .before .before .before .before .before .loop .inv in let p = c .before .before .before .before .before .before .before .before .before .before .before .before .before .before .before .before .before .before .before .before .before .before .before .before .pre in let m = g .mid (p .at) (p .env) (p .bound) in let x = c .before .before .before .before .before .before .before .before .before .before .before .before .before .before .before .before .before .before .before .read-line .ensures in let e = sym (c .before .before .before .before .before .before .before .before .before .before .before .before .before .before .before .before .before .before .class-of .ensures) ∙ c .before .before .before .before .before .before .before .before .before .before .before .before .before .before .before .before .if2 .taken in let w = c .before .before .before .before .before .before .before .before .before .before .before .before .before .infer-expr .ensures in let f = c .before .before .before .before .before .before .before .len .given .1 in less _ _ _ (mid-on m _ x e (p .bound) w f) (mid-below m)
 
--- src/statement.rt:38:5
 loop-again : tie.Need-loop-again Inv-loop μ-loop
 loop-again c = let g = c .before .before .before .before .before .before .before .before .before .before .before .before .before .before .before .before .before .before .before .before .loop .inv in let p = c .before .before .before .before .before .before .before .before .before .before .before .before .before .before .before .before .before .before .before .before .before .before .before .before .pre in let m = g .mid (p .at) (p .env) (p .bound) in let x = c .before .before .before .before .before .before .before .before .before .before .before .before .before .before .before .before .before .before .before .read-line .ensures in let e = sym (c .before .before .before .before .before .before .before .before .before .before .before .before .before .before .before .before .before .before .class-of .ensures) ∙ c .before .before .before .before .before .before .before .before .before .before .before .before .before .before .before .before .if2 .taken in let w = c .before .before .before .before .before .before .before .before .before .before .before .before .before .infer-expr .ensures in let f = c .before .before .before .before .before .before .before .len .given .1 in let d = c .before .before .before .type-line .ensures in record { long = mid-long m _ x e (p .bound) w ∙ g .long; as-long = mid-kept m _ x e (p .bound) w f _ _ d ∙ g .as-long; mid = λ a env v. mid-typed (g .mid a env v) _ x e v w f _ _ d _ (c .filled .ensures) }
 
--- src/statement.rt:52:32
 enum-known-l : tie.Need-enum-known-l Inv-loop μ-loop
 enum-known-l c = search needs
 
--- src/statement.rt:53:21
 same-length-3 : tie.Need-same-length-3 Inv-loop μ-loop
 same-length-3 c = let g = c .before .before .before .before .before .before .before .before .before .before .before .before .before .before .loop .inv in let p = c .before .before .before .before .before .before .before .before .before .before .before .before .before .before .before .before .before .before .pre in let m = g .mid (p .at) (p .env) (p .bound) in let x = c .before .before .before .before .before .before .before .before .before .before .before .before .before .read-line .ensures in let e = sym (c .before .before .before .before .before .before .before .before .before .before .before .before .class-of .ensures) ∙ c .before .before .before .before .before .before .before .before .before .before .if2 .taken in let w = c .before .before .before .before .before .before .before .infer-expr .ensures in mid-long m _ x e (p .bound) w ∙ g .long
 
--- src/statement.rt:53:21
 same-length-4 : tie.Need-same-length-4 Inv-loop μ-loop
 same-length-4 c = let g = c .before .before .before .before .before .before .before .before .before .before .before .before .before .before .loop .inv in let p = c .before .before .before .before .before .before .before .before .before .before .before .before .before .before .before .before .before .before .pre in let m = g .mid (p .at) (p .env) (p .bound) in let x = c .before .before .before .before .before .before .before .before .before .before .before .before .before .read-line .ensures in let e = sym (c .before .before .before .before .before .before .before .before .before .before .before .before .class-of .ensures) ∙ c .before .before .before .before .before .before .before .before .before .before .if2 .taken in let w = c .before .before .before .before .before .before .before .infer-expr .ensures in mid-as-long m _ x e (p .bound) w ∙ g .as-long
 
--- src/statement.rt:53:21
 returns-2 : tie.Need-returns-2 Inv-loop μ-loop
 returns-2 c = let g = c .before .before .before .before .before .before .before .before .before .before .before .before .before .before .loop .inv in let p = c .before .before .before .before .before .before .before .before .before .before .before .before .before .before .before .before .before .before .pre in let m = g .mid (p .at) (p .env) (p .bound) in let x = c .before .before .before .before .before .before .before .before .before .before .before .before .before .read-line .ensures in let e = sym (c .before .before .before .before .before .before .before .before .before .before .before .before .class-of .ensures) ∙ c .before .before .before .before .before .before .before .before .before .before .if2 .taken in let w = c .before .before .before .before .before .before .before .infer-expr .ensures in record { long = mid-long m _ x e (p .bound) w ∙ g .long; as-long = mid-as-long m _ x e (p .bound) w ∙ g .as-long; made = λ a env v. mid-large (g .mid a env v) _ x e v w _ (c .before .l .given .1) _ }
 
--- src/statement.rt:57:13
 past-requires : tie.Need-past-requires Inv-loop μ-loop
 past-requires c κs = let g = c .before .before .before .before .loop .inv in let p = c .before .before .before .before .before .before .before .before .pre in let m = g .mid (p .at) (p .env) (p .bound) in mid-line m _ (c .before .before .before .read-line .ensures)
 
--- src/statement.rt:38:5
 loop-less-2 : tie.Need-loop-less-2 Inv-loop μ-loop
 loop-less-2 c = let g = c .before .before .before .before .before .loop .inv in let p = c .before .before .before .before .before .before .before .before .before .pre in let m = g .mid (p .at) (p .env) (p .bound) in less _ _ _ (omega (arith, c .past .ensures .1)) (mid-below m)
 
--- src/statement.rt:38:5
 loop-again-2 : tie.Need-loop-again-2 Inv-loop μ-loop
 loop-again-2 c = let g = c .before .before .before .before .before .loop .inv in record { long = g .long; as-long = g .as-long; mid = λ a env v. mid-skip (g .mid a env v) _ (c .before .before .before .before .read-line .ensures) (λ e. c .before .before .if1 .left (c .before .before .before .class-of .ensures ∙ e)) (λ e. c .before .if2 .left (c .before .before .before .class-of .ensures ∙ e)) _ (c .past .ensures) }
 

@@ -66,119 +66,90 @@ check-tree-μ-loop b sheet depth work₀ out₀ c₀ y₀ todo₀ work out c y t
 abbrev infer-expr-claims : ℕ → infer-expr-lts.Claims
 infer-expr-claims t = (kids-of-reads.Asked, kids-of-reads.Learnt, rule-of-reads.Asked, rule-of-reads.Learnt, past-reads.Asked, past-reads.Learnt, start-reads.Asked, start-reads.Learnt, read-line-reads.Asked, read-line-reads.Learnt, check-tree-below t, check-tree.Post, role-of-reads.Asked, role-of-reads.Learnt, spelt-reads.Asked, spelt-reads.Learnt, held-reads.Asked, held-reads.Learnt, step-reads.Asked, step-reads.Learnt, finish-reads.Asked, finish-reads.Learnt, told-reads.Asked, told-reads.Learnt)
 
--- src/walk.rt:167:9
 check-tree-entered-requires : (t : ℕ) → check-tree-lts.Need-entered-requires (check-tree-claims t) (check-tree-at t) check-tree.Post check-tree-Inv-loop check-tree-μ-loop
 check-tree-entered-requires t c κs = enters (c .before .before .before .pre .1 .at)
 
--- src/walk.rt:169:8
 check-tree-class-of-requires : (t : ℕ) → check-tree-lts.Need-class-of-requires (check-tree-claims t) (check-tree-at t) check-tree.Post check-tree-Inv-loop check-tree-μ-loop
 check-tree-class-of-requires t c κs = search needs
 
--- src/walk.rt:171:9
 check-tree-infer-expr-requires : (t : ℕ) → check-tree-lts.Need-infer-expr-requires (check-tree-claims t) (check-tree-at t) check-tree.Post check-tree-Inv-loop check-tree-μ-loop
 check-tree-infer-expr-requires t c κs = (omega (arith, c .before .before .before .before .before .before .before .before .before .before .pre .0), via-ask (c .before .before .before .before .before .before .before .before .before .before .pre .1) (c .before .before .before .before .before .before .entered .ensures) (sym (c .before .before .before .before .class-of .ensures) ∙ c .before .before .before .if1 .taken))
 
--- src/walk.rt:171:9
 check-tree-same-length : (t : ℕ) → check-tree-lts.Need-same-length (check-tree-claims t) (check-tree-at t) check-tree.Post check-tree-Inv-loop check-tree-μ-loop
 check-tree-same-length t c = search needs
 
--- src/walk.rt:171:9
 check-tree-same-length-2 : (t : ℕ) → check-tree-lts.Need-same-length-2 (check-tree-claims t) (check-tree-at t) check-tree.Post check-tree-Inv-loop check-tree-μ-loop
 check-tree-same-length-2 t c = search needs
 
--- src/walk.rt:171:9
 check-tree-returns : (t : ℕ) → check-tree-lts.Need-returns (check-tree-claims t) (check-tree-at t) check-tree.Post check-tree-Inv-loop check-tree-μ-loop
 check-tree-returns t c = via-walked (c .before .before .before .before .before .before .before .before .before .before .before .entered .ensures) (sym (c .before .before .before .before .before .before .before .before .before .class-of .ensures) ∙ c .before .before .before .before .before .before .before .before .if1 .taken) (c .before .before .before .before .infer-expr .ensures)
 
--- src/walk.rt:176:5
 check-tree-loop-holds : (t : ℕ) → check-tree-lts.Need-loop-holds (check-tree-claims t) (check-tree-at t) check-tree.Post check-tree-Inv-loop check-tree-μ-loop
 check-tree-loop-holds t c = tree-start
 
--- src/walk.rt:178:13
 check-tree-read-line-requires : (t : ℕ) → check-tree-lts.Need-read-line-requires (check-tree-claims t) (check-tree-at t) check-tree.Post check-tree-Inv-loop check-tree-μ-loop
 check-tree-read-line-requires t c κs = tree-inside (c .before .before .before .before .before .before .before .before .before .pre .1) (c .before .loop .inv)
 
--- src/walk.rt:179:12
 check-tree-class-of-requires-2 : (t : ℕ) → check-tree-lts.Need-class-of-requires-2 (check-tree-claims t) (check-tree-at t) check-tree.Post check-tree-Inv-loop check-tree-μ-loop
 check-tree-class-of-requires-2 t c κs = search needs
 
--- src/walk.rt:180:19
 check-tree-infer-expr-requires-2 : (t : ℕ) → check-tree-lts.Need-infer-expr-requires-2 (check-tree-claims t) (check-tree-at t) check-tree.Post check-tree-Inv-loop check-tree-μ-loop
 check-tree-infer-expr-requires-2 t c κs = (omega (arith, c .before .before .before .before .before .before .before .before .before .before .before .before .before .before .pre .0), tree-ask (c .before .before .before .before .before .before .before .before .before .before .before .before .before .before .pre .1) (c .before .before .before .before .before .before .loop .inv) (c .before .before .before .before .before .loop-test .taken) _ (c .before .before .before .before .read-line .ensures) (sym (c .before .before .before .class-of2 .ensures) ∙ c .before .before .if2 .taken))
 
--- src/walk.rt:183:26
 check-tree-enum-known-behind : (t : ℕ) → check-tree-lts.Need-enum-known-behind (check-tree-claims t) (check-tree-at t) check-tree.Post check-tree-Inv-loop check-tree-μ-loop
 check-tree-enum-known-behind t c = search needs
 
--- src/walk.rt:188:21
 check-tree-sub-todo : (t : ℕ) → check-tree-lts.Need-sub-todo (check-tree-claims t) (check-tree-at t) check-tree.Post check-tree-Inv-loop check-tree-μ-loop
 check-tree-sub-todo t c = search needs
 
--- src/walk.rt:176:5
 check-tree-loop-less : (t : ℕ) → check-tree-lts.Need-loop-less (check-tree-claims t) (check-tree-at t) check-tree.Post check-tree-Inv-loop check-tree-μ-loop
 check-tree-loop-less t c = omega (arith, tree-line (c .before .before .before .before .before .before .before .before .before .before .before .before .before .before .before .before .before .before .before .before .before .before .pre .1) (c .before .before .before .before .before .before .before .before .before .before .before .before .before .before .loop .inv), tree-down (c .before .before .before .before .before .before .before .before .before .before .before .before .before .before .before .before .before .before .before .before .before .before .pre .1) (c .before .before .before .before .before .before .before .before .before .before .before .before .before .before .loop .inv) (c .before .before .before .before .before .before .before .before .before .before .before .before .before .loop-test .taken) _ (c .before .before .before .before .before .before .before .before .before .before .before .before .read-line .ensures) (sym (c .before .before .before .before .before .before .before .before .before .before .before .class-of2 .ensures) ∙ c .before .before .before .before .before .before .before .before .before .before .if2 .taken) (c .before .before .before .before .before .before .before .infer-expr2 .ensures) (c .before .behind .given .1))
 
--- src/walk.rt:176:5
 check-tree-loop-again : (t : ℕ) → check-tree-lts.Need-loop-again (check-tree-claims t) (check-tree-at t) check-tree.Post check-tree-Inv-loop check-tree-μ-loop
 check-tree-loop-again t c = tree-on (c .before .before .before .before .before .before .before .before .before .before .before .before .before .before .before .before .before .before .before .before .before .before .pre .1) (c .before .before .before .before .before .before .before .before .before .before .before .before .before .before .loop .inv) (c .before .before .before .before .before .before .before .before .before .before .before .before .before .loop-test .taken) _ (c .before .before .before .before .before .before .before .before .before .before .before .before .read-line .ensures) (sym (c .before .before .before .before .before .before .before .before .before .before .before .class-of2 .ensures) ∙ c .before .before .before .before .before .before .before .before .before .before .if2 .taken) (c .before .before .before .before .before .before .before .infer-expr2 .ensures) (c .before .behind .given .1)
 
--- src/walk.rt:190:32
 check-tree-enum-known-l : (t : ℕ) → check-tree-lts.Need-enum-known-l (check-tree-claims t) (check-tree-at t) check-tree.Post check-tree-Inv-loop check-tree-μ-loop
 check-tree-enum-known-l t c = search needs
 
--- src/walk.rt:191:21
 check-tree-same-length-3 : (t : ℕ) → check-tree-lts.Need-same-length-3 (check-tree-claims t) (check-tree-at t) check-tree.Post check-tree-Inv-loop check-tree-μ-loop
 check-tree-same-length-3 t c = search needs
 
--- src/walk.rt:191:21
 check-tree-same-length-4 : (t : ℕ) → check-tree-lts.Need-same-length-4 (check-tree-claims t) (check-tree-at t) check-tree.Post check-tree-Inv-loop check-tree-μ-loop
 check-tree-same-length-4 t c = search needs
 
--- src/walk.rt:191:21
 check-tree-returns-2 : (t : ℕ) → check-tree-lts.Need-returns-2 (check-tree-claims t) (check-tree-at t) check-tree.Post check-tree-Inv-loop check-tree-μ-loop
 check-tree-returns-2 t c = tree-stop (c .before .before .before .before .before .before .before .before .before .before .before .before .before .before .before .before .before .before .before .before .before .before .pre .1) (c .before .before .before .before .before .before .before .before .before .before .before .before .before .before .loop .inv) (c .before .before .before .before .before .before .before .before .before .before .before .before .before .loop-test .taken) _ (c .before .before .before .before .before .before .before .before .before .before .before .before .read-line .ensures) (sym (c .before .before .before .before .before .before .before .before .before .before .before .class-of2 .ensures) ∙ c .before .before .before .before .before .before .before .before .before .before .if2 .taken) (c .before .before .before .before .before .before .before .infer-expr2 .ensures) _ (c .before .l .given .1)
 
--- src/walk.rt:195:17
 check-tree-kids-of-requires : (t : ℕ) → check-tree-lts.Need-kids-of-requires (check-tree-claims t) (check-tree-at t) check-tree.Post check-tree-Inv-loop check-tree-μ-loop
 check-tree-kids-of-requires t c κs = tree-kids (c .before .before .before .before .before .before .before .before .before .before .before .before .pre .1) (c .before .before .before .before .loop .inv) (c .before .before .before .loop-test .taken) _ (c .before .before .read-line .ensures)
 
--- src/walk.rt:196:13
 check-tree-past-requires : (t : ℕ) → check-tree-lts.Need-past-requires (check-tree-claims t) (check-tree-at t) check-tree.Post check-tree-Inv-loop check-tree-μ-loop
 check-tree-past-requires t c κs = tree-past (c .before .before .before .before .before .before .before .before .before .before .before .before .before .pre .1) (c .before .before .before .before .before .loop .inv) (c .before .before .before .before .loop-test .taken) _ (c .before .before .before .read-line .ensures) (λ e. c .before .if2 .left (c .before .before .class-of2 .ensures ∙ e)) (c .kids-of .ensures)
 
--- src/walk.rt:197:20
 check-tree-sub-todo-2 : (t : ℕ) → check-tree-lts.Need-sub-todo-2 (check-tree-claims t) (check-tree-at t) check-tree.Post check-tree-Inv-loop check-tree-μ-loop
 check-tree-sub-todo-2 t c = search needs
 
--- src/walk.rt:197:20
 check-tree-add-todo : (t : ℕ) → check-tree-lts.Need-add-todo (check-tree-claims t) (check-tree-at t) check-tree.Post check-tree-Inv-loop check-tree-μ-loop
 check-tree-add-todo t c = omega (arith, tree-todo (c .before .before .before .before .before .before .before .before .before .before .before .before .before .before .before .pre .1) (c .before .before .before .before .before .before .before .loop .inv), c .before .before .kids-of .ensures .small)
 
--- src/walk.rt:176:5
 check-tree-loop-less-2 : (t : ℕ) → check-tree-lts.Need-loop-less-2 (check-tree-claims t) (check-tree-at t) check-tree.Post check-tree-Inv-loop check-tree-μ-loop
 check-tree-loop-less-2 t c = omega (arith, tree-line (c .before .before .before .before .before .before .before .before .before .before .before .before .before .before .before .pre .1) (c .before .before .before .before .before .before .before .loop .inv), c .before .past .ensures .1)
 
--- src/walk.rt:176:5
 check-tree-loop-again-2 : (t : ℕ) → check-tree-lts.Need-loop-again-2 (check-tree-claims t) (check-tree-at t) check-tree.Post check-tree-Inv-loop check-tree-μ-loop
 check-tree-loop-again-2 t c = tree-pass (c .before .before .before .before .before .before .before .before .before .before .before .before .before .before .before .pre .1) (c .before .before .before .before .before .before .before .loop .inv) (c .before .before .before .before .before .before .loop-test .taken) _ (c .before .before .before .before .before .read-line .ensures) (λ e. c .before .before .before .if2 .left (c .before .before .before .before .class-of2 .ensures ∙ e)) (c .before .before .kids-of .ensures) _ (c .before .past .ensures)
 
--- src/walk.rt:200:5
 check-tree-slice-write-work : (t : ℕ) → check-tree-lts.Need-slice-write-work (check-tree-claims t) (check-tree-at t) check-tree.Post check-tree-Inv-loop check-tree-μ-loop
 check-tree-slice-write-work t c = omega (arith, tree-room (c .before .before .before .before .before .before .before .before .before .pre .1) (c .before .loop .inv))
 
--- src/walk.rt:201:5
 check-tree-slice-write-work-2 : (t : ℕ) → check-tree-lts.Need-slice-write-work-2 (check-tree-claims t) (check-tree-at t) check-tree.Post check-tree-Inv-loop check-tree-μ-loop
 check-tree-slice-write-work-2 t c = lt-length-set (c .before .loop .work) 0 80 (omega (arith, tree-room (c .before .before .before .before .before .before .before .before .before .pre .1) (c .before .loop .inv)))
 
--- src/walk.rt:154:1
 check-tree-same-length-5 : (t : ℕ) → check-tree-lts.Need-same-length-5 (check-tree-claims t) (check-tree-at t) check-tree.Post check-tree-Inv-loop check-tree-μ-loop
 check-tree-same-length-5 t c = search needs
 
--- src/walk.rt:154:1
 check-tree-same-length-6 : (t : ℕ) → check-tree-lts.Need-same-length-6 (check-tree-claims t) (check-tree-at t) check-tree.Post check-tree-Inv-loop check-tree-μ-loop
 check-tree-same-length-6 t c = search needs
 
--- src/walk.rt:154:1
 check-tree-returns-3 : (t : ℕ) → check-tree-lts.Need-returns-3 (check-tree-claims t) (check-tree-at t) check-tree.Post check-tree-Inv-loop check-tree-μ-loop
 check-tree-returns-3 t c = tree-end (c .before .before .before .before .before .before .before .before .before .pre .1) (c .before .loop .inv) (omega (arith, c .loop-test .left)) (c .before .before .before .before .before .entered .ensures) (λ e. c .before .before .if1 .left (c .before .before .before .class-of .ensures ∙ e))
 
@@ -188,147 +159,111 @@ infer-expr-Inv-loop b sheet h depth work₀ out₀ here n rule c₀ y₀ st₀ j
 abbrev infer-expr-μ-loop : infer-expr-lts.MeasureT-loop
 infer-expr-μ-loop b sheet h depth work₀ out₀ here n rule c₀ y₀ st₀ j₀ work out c y st j = n - j
 
--- src/walk.rt:112:9
 infer-expr-kids-of-requires : (t : ℕ) → infer-expr-lts.Need-kids-of-requires (infer-expr-claims t) (infer-expr-at t) infer-expr.Post infer-expr-Inv-loop infer-expr-μ-loop
 infer-expr-kids-of-requires t c κs = infer-kids (c .before .before .before .before .pre .1)
 
--- src/walk.rt:114:9
 infer-expr-rule-of-requires : (t : ℕ) → infer-expr-lts.Need-rule-of-requires (infer-expr-claims t) (infer-expr-at t) infer-expr.Post infer-expr-Inv-loop infer-expr-μ-loop
 infer-expr-rule-of-requires t c κs = search needs
 
--- src/walk.rt:115:9
 infer-expr-past-requires : (t : ℕ) → infer-expr-lts.Need-past-requires (infer-expr-claims t) (infer-expr-at t) infer-expr.Post infer-expr-Inv-loop infer-expr-μ-loop
 infer-expr-past-requires t c κs = infer-past (c .before .before .before .before .before .before .pre .1)
 
--- src/walk.rt:117:9
 infer-expr-start-requires : (t : ℕ) → infer-expr-lts.Need-start-requires (infer-expr-claims t) (infer-expr-at t) infer-expr.Post infer-expr-Inv-loop infer-expr-μ-loop
 infer-expr-start-requires t c κs = infer-wide (c .before .before .before .before .before .before .before .before .pre .1)
 
--- src/walk.rt:119:5
 infer-expr-loop-holds : (t : ℕ) → infer-expr-lts.Need-loop-holds (infer-expr-claims t) (infer-expr-at t) infer-expr.Post infer-expr-Inv-loop infer-expr-μ-loop
 infer-expr-loop-holds t c = infer-start (c .before .before .before .before .before .before .before .before .before .before .before .pre .1) (c .before .before .before .before .past .ensures) (c .before .before .before .before .before .rule-of .ensures) (c .before .before .start .ensures)
 
--- src/walk.rt:121:13
 infer-expr-read-line-requires : (t : ℕ) → infer-expr-lts.Need-read-line-requires (infer-expr-claims t) (infer-expr-at t) infer-expr.Post infer-expr-Inv-loop infer-expr-μ-loop
 infer-expr-read-line-requires t c κs = infer-inside (c .before .before .before .before .before .before .before .before .before .before .before .before .before .pre .1) (c .before .loop .inv) (c .before .before .before .before .start .ensures .0)
 
--- src/walk.rt:123:42
 infer-expr-sub-check-tree : (t : ℕ) → infer-expr-lts.Need-sub-check-tree (infer-expr-claims t) (infer-expr-at t) infer-expr.Post infer-expr-Inv-loop infer-expr-μ-loop
 infer-expr-sub-check-tree t c = infer-pos (c .before .before .before .before .before .before .before .before .before .before .before .before .before .before .pre .1)
 
--- src/walk.rt:123:53
 infer-expr-sub-check-tree-2 : (t : ℕ) → infer-expr-lts.Need-sub-check-tree-2 (infer-expr-claims t) (infer-expr-at t) infer-expr.Post infer-expr-Inv-loop infer-expr-μ-loop
 infer-expr-sub-check-tree-2 t c = infer-len (c .before .before .before .before .before .before .before .before .before .before .before .before .before .before .pre .1) (c .before .before .loop .inv) (c .before .before .before .before .before .start .ensures .0)
 
--- src/walk.rt:123:53
 infer-expr-part-check-tree-start : (t : ℕ) → infer-expr-lts.Need-part-check-tree-start (infer-expr-claims t) (infer-expr-at t) infer-expr.Post infer-expr-Inv-loop infer-expr-μ-loop
 infer-expr-part-check-tree-start t c = omega (arith, infer-len (c .before .before .before .before .before .before .before .before .before .before .before .before .before .before .pre .1) (c .before .before .loop .inv) (c .before .before .before .before .before .start .ensures .0))
 
--- src/walk.rt:123:53
 infer-expr-part-check-tree-end : (t : ℕ) → infer-expr-lts.Need-part-check-tree-end (infer-expr-claims t) (infer-expr-at t) infer-expr.Post infer-expr-Inv-loop infer-expr-μ-loop
 infer-expr-part-check-tree-end t c = omega (arith, infer-len (c .before .before .before .before .before .before .before .before .before .before .before .before .before .before .pre .1) (c .before .before .loop .inv) (c .before .before .before .before .before .start .ensures .0))
 
--- src/walk.rt:123:15
 infer-expr-check-tree-requires : (t : ℕ) → infer-expr-lts.Need-check-tree-requires (infer-expr-claims t) (infer-expr-at t) infer-expr.Post infer-expr-Inv-loop infer-expr-μ-loop
 infer-expr-check-tree-requires t c κs = (omega (arith, infer-pos (c .before .before .before .before .before .before .before .before .before .before .before .before .before .before .before .before .pre .1), c .before .before .before .before .before .before .before .before .before .before .before .before .before .before .before .before .pre .0), infer-child (c .before .before .before .before .before .before .before .before .before .before .before .before .before .before .before .before .pre .1) (c .before .before .before .before .loop .inv) (c .before .before .before .before .before .before .before .start .ensures .0) (c .before .before .before .before .before .before .before .before .before .before .before .kids-of .ensures) (c .before .before .before .loop-test .taken) _ (c .before .before .read-line .ensures))
 
--- src/walk.rt:125:17
 infer-expr-enum-known-len : (t : ℕ) → infer-expr-lts.Need-enum-known-len (infer-expr-claims t) (infer-expr-at t) infer-expr.Post infer-expr-Inv-loop infer-expr-μ-loop
 infer-expr-enum-known-len t c = search needs
 
--- src/walk.rt:129:21
 infer-expr-role-of-requires : (t : ℕ) → infer-expr-lts.Need-role-of-requires (infer-expr-claims t) (infer-expr-at t) infer-expr.Post infer-expr-Inv-loop infer-expr-μ-loop
 infer-expr-role-of-requires t c κs = infer-role (c .before .before .before .before .before .before .before .before .before .before .before .before .before .before .before .before .before .before .before .before .before .before .before .before .pre .1) (c .before .before .before .before .before .before .before .before .before .before .before .before .loop .inv) (c .before .before .before .before .before .before .before .before .before .before .before .before .before .before .before .start .ensures .0) (c .before .before .before .before .before .before .before .before .before .before .before .before .before .before .before .before .before .before .before .kids-of .ensures) (c .before .before .before .before .before .before .before .before .before .before .before .loop-test .taken)
 
--- src/walk.rt:130:21
 infer-expr-spelt-requires : (t : ℕ) → infer-expr-lts.Need-spelt-requires (infer-expr-claims t) (infer-expr-at t) infer-expr.Post infer-expr-Inv-loop infer-expr-μ-loop
 infer-expr-spelt-requires t c κs = search needs
 
--- src/walk.rt:132:40
 infer-expr-held-requires : (t : ℕ) → infer-expr-lts.Need-held-requires (infer-expr-claims t) (infer-expr-at t) infer-expr.Post infer-expr-Inv-loop infer-expr-μ-loop
 infer-expr-held-requires t c κs = search needs
 
--- src/walk.rt:132:61
 infer-expr-sub-step : (t : ℕ) → infer-expr-lts.Need-sub-step (infer-expr-claims t) (infer-expr-at t) infer-expr.Post infer-expr-Inv-loop infer-expr-μ-loop
 infer-expr-sub-step t c = c .before .before .spelt .ensures .below
 
--- src/walk.rt:132:61
 infer-expr-part-step-start : (t : ℕ) → infer-expr-lts.Need-part-step-start (infer-expr-claims t) (infer-expr-at t) infer-expr.Post infer-expr-Inv-loop infer-expr-μ-loop
 infer-expr-part-step-start t c = omega (arith, infer-stop (c .before .before .before .before .before .before .before .before .before .before .before .before .before .before .before .before .before .before .before .before .before .before .before .before .before .before .before .before .pre .1) (c .before .before .before .before .before .before .before .before .before .before .before .before .before .before .before .before .loop .inv) (c .before .before .before .before .before .before .before .before .before .before .before .before .before .before .before .before .before .before .before .start .ensures .0) (c .before .before .before .before .before .before .before .before .before .before .before .before .before .before .before .before .before .before .before .before .before .before .before .kids-of .ensures) (c .before .before .before .before .before .before .before .before .before .before .before .before .before .before .before .loop-test .taken) _ (c .before .before .before .before .before .before .before .before .before .before .before .before .before .before .read-line .ensures), c .before .before .spelt .ensures .below)
 
--- src/walk.rt:132:61
 infer-expr-part-step-end : (t : ℕ) → infer-expr-lts.Need-part-step-end (infer-expr-claims t) (infer-expr-at t) infer-expr.Post infer-expr-Inv-loop infer-expr-μ-loop
 infer-expr-part-step-end t c = omega (arith, infer-stop (c .before .before .before .before .before .before .before .before .before .before .before .before .before .before .before .before .before .before .before .before .before .before .before .before .before .before .before .before .pre .1) (c .before .before .before .before .before .before .before .before .before .before .before .before .before .before .before .before .loop .inv) (c .before .before .before .before .before .before .before .before .before .before .before .before .before .before .before .before .before .before .before .start .ensures .0) (c .before .before .before .before .before .before .before .before .before .before .before .before .before .before .before .before .before .before .before .before .before .before .before .kids-of .ensures) (c .before .before .before .before .before .before .before .before .before .before .before .before .before .before .before .loop-test .taken) _ (c .before .before .before .before .before .before .before .before .before .before .before .before .before .before .read-line .ensures), c .before .before .spelt .ensures .below)
 
--- src/walk.rt:132:23
 infer-expr-step-requires : (t : ℕ) → infer-expr-lts.Need-step-requires (infer-expr-claims t) (infer-expr-at t) infer-expr.Post infer-expr-Inv-loop infer-expr-μ-loop
 infer-expr-step-requires t c κs = infer-step (c .before .before .before .before .before .before .before .before .before .before .before .before .before .before .before .before .before .before .before .before .before .before .before .before .before .before .before .before .before .before .pre .1) (c .before .before .before .before .before .before .before .before .before .before .before .before .before .before .before .before .before .before .loop .inv) (c .before .before .before .before .before .before .before .before .before .before .before .before .before .before .before .before .before .before .before .before .before .start .ensures .0) (c .before .before .before .before .before .before .before .before .before .before .before .before .before .before .before .before .before .before .before .before .before .before .before .before .before .kids-of .ensures) (c .before .before .before .before .before .before .before .before .before .before .before .before .before .before .before .before .before .loop-test .taken) _ (c .before .before .before .before .before .before .before .before .before .before .before .before .before .before .before .before .read-line .ensures) (c .before .before .before .before .before .before .before .before .before .before .before .before .before .check-tree .ensures) (c .before .before .before .before .before .before .before .len .given .1) (c .before .before .before .held .ensures) (c .before .before .before .before .spelt .ensures) (c .before .before .before .before .before .before .before .before .before .before .before .before .before .before .before .before .before .before .before .before .before .before .before .before .rule-of .ensures) (c .before .before .before .before .before .role-of .ensures)
 
--- src/walk.rt:133:39
 infer-expr-enum-known-s : (t : ℕ) → infer-expr-lts.Need-enum-known-s (infer-expr-claims t) (infer-expr-at t) infer-expr.Post infer-expr-Inv-loop infer-expr-μ-loop
 infer-expr-enum-known-s t c = search needs
 
--- src/walk.rt:139:25
 infer-expr-enum-told : (t : ℕ) → infer-expr-lts.Need-enum-told (infer-expr-claims t) (infer-expr-at t) infer-expr.Post infer-expr-Inv-loop infer-expr-μ-loop
 infer-expr-enum-told t c = search needs
 
--- src/walk.rt:139:25
 infer-expr-same-length : (t : ℕ) → infer-expr-lts.Need-same-length (infer-expr-claims t) (infer-expr-at t) infer-expr.Post infer-expr-Inv-loop infer-expr-μ-loop
 infer-expr-same-length t c = infer-after (c .before .before .before .before .before .before .before .before .before .before .before .before .before .before .before .before .before .before .before .before .before .before .before .before .before .before .before .before .before .before .before .before .before .before .before .before .before .pre .1) (c .before .before .before .before .before .before .before .before .before .before .before .before .before .before .before .before .before .before .before .before .before .before .before .before .before .loop .inv) (c .before .before .before .before .before .before .before .before .before .before .before .before .before .before .before .before .before .before .before .before .before .before .before .before .before .before .before .before .start .ensures .0) (c .before .before .before .before .before .before .before .before .before .before .before .before .before .before .before .before .before .before .before .before .before .before .before .before .before .before .before .before .before .before .before .before .kids-of .ensures) (c .before .before .before .before .before .before .before .before .before .before .before .before .before .before .before .before .before .before .before .before .before .before .before .before .loop-test .taken) _ (c .before .before .before .before .before .before .before .before .before .before .before .before .before .before .before .before .before .before .before .before .before .before .before .read-line .ensures) (c .before .before .before .before .before .before .before .before .before .before .before .before .before .before .before .before .before .before .before .before .check-tree .ensures) (c .before .before .before .before .before .before .before .before .before .before .before .before .before .before .len .given .1) (c .before .before .before .before .before .before .before .before .before .before .held .ensures) (c .before .before .before .before .before .before .before .before .before .before .before .spelt .ensures) (c .before .before .before .before .before .before .before .before .before .before .before .before .before .before .before .before .before .before .before .before .before .before .before .before .before .before .before .before .before .before .before .rule-of .ensures) (c .before .before .before .before .before .before .before .before .before .before .before .before .role-of .ensures) (c .before .before .before .before .before .before .step .ensures) .0 ∙ c .before .before .before .before .before .before .before .before .before .before .before .before .before .before .before .before .before .before .before .before .before .before .before .before .before .loop .inv .long ∙ c .before .before .before .before .before .before .before .before .before .before .before .before .before .before .before .before .before .before .before .before .before .before .before .before .before .before .before .before .start .ensures .0
 
--- src/walk.rt:139:25
 infer-expr-same-length-2 : (t : ℕ) → infer-expr-lts.Need-same-length-2 (infer-expr-claims t) (infer-expr-at t) infer-expr.Post infer-expr-Inv-loop infer-expr-μ-loop
 infer-expr-same-length-2 t c = infer-after (c .before .before .before .before .before .before .before .before .before .before .before .before .before .before .before .before .before .before .before .before .before .before .before .before .before .before .before .before .before .before .before .before .before .before .before .before .before .pre .1) (c .before .before .before .before .before .before .before .before .before .before .before .before .before .before .before .before .before .before .before .before .before .before .before .before .before .loop .inv) (c .before .before .before .before .before .before .before .before .before .before .before .before .before .before .before .before .before .before .before .before .before .before .before .before .before .before .before .before .start .ensures .0) (c .before .before .before .before .before .before .before .before .before .before .before .before .before .before .before .before .before .before .before .before .before .before .before .before .before .before .before .before .before .before .before .before .kids-of .ensures) (c .before .before .before .before .before .before .before .before .before .before .before .before .before .before .before .before .before .before .before .before .before .before .before .before .loop-test .taken) _ (c .before .before .before .before .before .before .before .before .before .before .before .before .before .before .before .before .before .before .before .before .before .before .before .read-line .ensures) (c .before .before .before .before .before .before .before .before .before .before .before .before .before .before .before .before .before .before .before .before .check-tree .ensures) (c .before .before .before .before .before .before .before .before .before .before .before .before .before .before .len .given .1) (c .before .before .before .before .before .before .before .before .before .before .held .ensures) (c .before .before .before .before .before .before .before .before .before .before .before .spelt .ensures) (c .before .before .before .before .before .before .before .before .before .before .before .before .before .before .before .before .before .before .before .before .before .before .before .before .before .before .before .before .before .before .before .rule-of .ensures) (c .before .before .before .before .before .before .before .before .before .before .before .before .role-of .ensures) (c .before .before .before .before .before .before .step .ensures) .1
 
--- src/walk.rt:139:25
 infer-expr-returns : (t : ℕ) → infer-expr-lts.Need-returns (infer-expr-claims t) (infer-expr-at t) infer-expr.Post infer-expr-Inv-loop infer-expr-μ-loop
 infer-expr-returns t c = infer-large (c .before .before .before .before .before .before .before .before .before .before .before .before .before .before .before .before .before .before .before .before .before .before .before .before .before .before .before .before .before .before .before .before .before .before .before .before .before .pre .1) (c .before .before .before .before .before .before .before .before .before .before .before .before .before .before .before .before .before .before .before .before .before .before .before .before .before .loop .inv) (c .before .before .before .before .before .before .before .before .before .before .before .before .before .before .before .before .before .before .before .before .before .before .before .before .before .before .before .before .start .ensures .0) (c .before .before .before .before .before .before .before .before .before .before .before .before .before .before .before .before .before .before .before .before .before .before .before .before .before .before .before .before .before .before .before .before .kids-of .ensures) (c .before .before .before .before .before .before .before .before .before .before .before .before .before .before .before .before .before .before .before .before .before .before .before .before .loop-test .taken) _ (c .before .before .before .before .before .before .before .before .before .before .before .before .before .before .before .before .before .before .before .before .before .before .before .read-line .ensures) (c .before .before .before .before .before .before .before .before .before .before .before .before .before .before .before .before .before .before .before .before .check-tree .ensures) (c .before .before .before .before .before .before .before .before .before .before .before .before .before .before .len .given .1) (c .before .before .before .before .before .before .before .before .before .before .held .ensures) (c .before .before .before .before .before .before .before .before .before .before .before .spelt .ensures) (c .before .before .before .before .before .before .before .before .before .before .before .before .before .before .before .before .before .before .before .before .before .before .before .before .before .before .before .before .before .before .before .rule-of .ensures) (c .before .before .before .before .before .before .before .before .before .before .before .before .role-of .ensures) (c .before .before .before .before .before .before .step .ensures) (c .enum-told .given .1)
 
--- src/walk.rt:143:28
 infer-expr-enum-known-l : (t : ℕ) → infer-expr-lts.Need-enum-known-l (infer-expr-claims t) (infer-expr-at t) infer-expr.Post infer-expr-Inv-loop infer-expr-μ-loop
 infer-expr-enum-known-l t c = search needs
 
--- src/walk.rt:144:17
 infer-expr-same-length-3 : (t : ℕ) → infer-expr-lts.Need-same-length-3 (infer-expr-claims t) (infer-expr-at t) infer-expr.Post infer-expr-Inv-loop infer-expr-μ-loop
 infer-expr-same-length-3 t c = search needs
 
--- src/walk.rt:144:17
 infer-expr-same-length-4 : (t : ℕ) → infer-expr-lts.Need-same-length-4 (infer-expr-claims t) (infer-expr-at t) infer-expr.Post infer-expr-Inv-loop infer-expr-μ-loop
 infer-expr-same-length-4 t c = search needs
 
--- src/walk.rt:144:17
 infer-expr-returns-2 : (t : ℕ) → infer-expr-lts.Need-returns-2 (infer-expr-claims t) (infer-expr-at t) infer-expr.Post infer-expr-Inv-loop infer-expr-μ-loop
 infer-expr-returns-2 t c = infer-halt (c .before .before .before .before .before .before .before .before .before .before .before .before .before .before .before .before .before .before .before .before .before .before .before .before .pre .1) (c .before .before .before .before .before .before .before .before .before .before .before .before .loop .inv) (c .before .before .before .before .before .before .before .before .before .before .before .before .before .before .before .start .ensures .0) (c .before .before .before .before .before .before .before .before .before .before .before .before .before .before .before .before .before .before .before .kids-of .ensures) (c .before .before .before .before .before .before .before .before .before .before .before .loop-test .taken) _ (c .before .before .before .before .before .before .before .before .before .before .read-line .ensures) (c .before .before .before .before .before .before .before .check-tree .ensures) _ (c .before .l .given .1)
 
--- src/walk.rt:147:9
 infer-expr-add-j : (t : ℕ) → infer-expr-lts.Need-add-j (infer-expr-claims t) (infer-expr-at t) infer-expr.Post infer-expr-Inv-loop infer-expr-μ-loop
 infer-expr-add-j t c = omega (arith, c .before .before .before .before .before .before .before .before .before .before .before .before .before .before .before .before .before .before .before .before .before .before .before .before .before .loop-test .taken, c .before .before .before .before .before .before .before .before .before .before .before .before .before .before .before .before .before .before .before .before .before .before .before .before .before .before .before .before .before .before .before .before .before .kids-of .ensures .small)
 
--- src/walk.rt:119:5
 infer-expr-loop-less : (t : ℕ) → infer-expr-lts.Need-loop-less (infer-expr-claims t) (infer-expr-at t) infer-expr.Post infer-expr-Inv-loop infer-expr-μ-loop
 infer-expr-loop-less t c = omega (arith, c .before .before .before .before .before .before .before .before .before .before .before .before .before .before .before .before .before .before .before .before .before .before .before .before .before .loop-test .taken)
 
--- src/walk.rt:119:5
 infer-expr-loop-again : (t : ℕ) → infer-expr-lts.Need-loop-again (infer-expr-claims t) (infer-expr-at t) infer-expr.Post infer-expr-Inv-loop infer-expr-μ-loop
 infer-expr-loop-again t c = infer-on (c .before .before .before .before .before .before .before .before .before .before .before .before .before .before .before .before .before .before .before .before .before .before .before .before .before .before .before .before .before .before .before .before .before .before .before .before .before .before .pre .1) (c .before .before .before .before .before .before .before .before .before .before .before .before .before .before .before .before .before .before .before .before .before .before .before .before .before .before .loop .inv) (c .before .before .before .before .before .before .before .before .before .before .before .before .before .before .before .before .before .before .before .before .before .before .before .before .before .before .before .before .before .start .ensures .0) (c .before .before .before .before .before .before .before .before .before .before .before .before .before .before .before .before .before .before .before .before .before .before .before .before .before .before .before .before .before .before .before .before .before .kids-of .ensures) (c .before .before .before .before .before .before .before .before .before .before .before .before .before .before .before .before .before .before .before .before .before .before .before .before .before .loop-test .taken) _ (c .before .before .before .before .before .before .before .before .before .before .before .before .before .before .before .before .before .before .before .before .before .before .before .before .read-line .ensures) (c .before .before .before .before .before .before .before .before .before .before .before .before .before .before .before .before .before .before .before .before .before .check-tree .ensures) (c .before .before .before .before .before .before .before .before .before .before .before .before .before .before .before .len .given .1) (c .before .before .before .before .before .before .before .before .before .before .before .held .ensures) (c .before .before .before .before .before .before .before .before .before .before .before .before .spelt .ensures) (c .before .before .before .before .before .before .before .before .before .before .before .before .before .before .before .before .before .before .before .before .before .before .before .before .before .before .before .before .before .before .before .before .rule-of .ensures) (c .before .before .before .before .before .before .before .before .before .before .before .before .before .role-of .ensures) (c .before .before .before .before .before .before .before .step .ensures) (c .before .s .given .1)
 
--- src/walk.rt:149:10
 infer-expr-finish-requires : (t : ℕ) → infer-expr-lts.Need-finish-requires (infer-expr-claims t) (infer-expr-at t) infer-expr.Post infer-expr-Inv-loop infer-expr-μ-loop
 infer-expr-finish-requires t c κs = infer-finish (c .before .before .before .before .before .before .before .before .before .before .before .before .before .before .before .pre .1) (c .before .before .before .loop .inv) (c .before .before .before .before .before .before .start .ensures .0) (c .before .before .before .before .before .before .before .before .before .before .kids-of .ensures) (c .before .before .loop-test .left)
 
--- src/walk.rt:149:5
 infer-expr-told-requires : (t : ℕ) → infer-expr-lts.Need-told-requires (infer-expr-claims t) (infer-expr-at t) infer-expr.Post infer-expr-Inv-loop infer-expr-μ-loop
 infer-expr-told-requires t c κs = search needs
 
--- src/walk.rt:98:1
 infer-expr-same-length-5 : (t : ℕ) → infer-expr-lts.Need-same-length-5 (infer-expr-claims t) (infer-expr-at t) infer-expr.Post infer-expr-Inv-loop infer-expr-μ-loop
 infer-expr-same-length-5 t c = search needs
 
--- src/walk.rt:98:1
 infer-expr-same-length-6 : (t : ℕ) → infer-expr-lts.Need-same-length-6 (infer-expr-claims t) (infer-expr-at t) infer-expr.Post infer-expr-Inv-loop infer-expr-μ-loop
 infer-expr-same-length-6 t c = search needs
 
--- src/walk.rt:98:1
 infer-expr-returns-3 : (t : ℕ) → infer-expr-lts.Need-returns-3 (infer-expr-claims t) (infer-expr-at t) infer-expr.Post infer-expr-Inv-loop infer-expr-μ-loop
 infer-expr-returns-3 t c = infer-end (c .before .before .before .before .before .before .before .before .before .before .before .before .before .before .before .before .before .before .before .before .before .pre .1) (c .before .before .before .before .before .before .before .before .before .loop .inv) (c .before .before .before .before .before .before .before .before .before .before .before .before .start .ensures .0) (c .before .before .before .before .before .before .before .before .before .before .before .before .before .before .before .before .kids-of .ensures) (c .before .before .before .before .before .before .before .before .loop-test .left) (c .before .before .before .before .before .finish .ensures) (c .told .ensures)
 

@@ -7,19 +7,15 @@ use Rattle.line.proofs.field.alias_value.Lts as lts
 use Rattle.line.proofs.field.is_dash.Reads as is-dash-reads
 use Rattle.line.proofs.field.name_value.Reads as name-value-reads
 
--- src/field.rt:95:8
 is-dash-requires : tie.Need-is-dash-requires
 is-dash-requires c κs = search needs
 
--- src/field.rt:96:9
 returns : tie.Need-returns
 returns c = alias-dash _ 0 _ (c .before .is-dash .ensures) (c .if1 .taken)
 
--- src/field.rt:98:5
 name-value-requires : tie.Need-name-value-requires
 name-value-requires c κs = search needs
 
--- src/field.rt:92:1
 returns-2 : tie.Need-returns-2
 returns-2 c = alias-some _ 0 _ _ _ (c .before .before .is-dash .ensures) (c .before .if1 .left) (c .name-value .ensures .0) (c .name-value .ensures .1)
 

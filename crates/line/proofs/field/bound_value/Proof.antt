@@ -10,51 +10,39 @@ use Rattle.line.proofs.field.bound_value.Lts as lts
 use Rattle.line.proofs.field.is_dash.Reads as is-dash-reads
 use Rattle.text.proofs.decimal.Reads as decimal-reads
 
--- src/field.rt:105:8
 is-dash-requires : tie.Need-is-dash-requires
 is-dash-requires c κs = search needs
 
--- src/field.rt:106:9
 returns : tie.Need-returns
 returns c = bound-dash _ _ _ (c .before .is-dash .ensures) (c .if1 .taken)
 
--- src/field.rt:109:9
 returns-2 : tie.Need-returns-2
 returns-2 c = bound-none _ _ _ (c .before .before .is-dash .ensures) (c .before .if1 .left) (c .if2 .taken)
 
--- src/field.rt:111:11
 decimal-requires : tie.Need-decimal-requires
 decimal-requires c κs = search needs
 
--- src/field.rt:112:21
 enum-told : tie.Need-enum-told
 enum-told c = search needs
 
--- src/field.rt:113:22
 enum-told-2 : tie.Need-enum-told-2
 enum-told-2 c = search needs
 
--- src/field.rt:114:17
 enum-known-n : tie.Need-enum-known-n
 enum-known-n c = search needs
 
--- src/field.rt:116:17
 returns-3 : tie.Need-returns-3
 returns-3 c = read-bound _ _ (c .before .before .before .before .decimal .ensures) _ (c .before .before .n .given .1) _ (omega arith) ∙ ap valOf (bound-some _ _ _ (c .before .before .before .before .before .before .before .is-dash .ensures) (c .before .before .before .before .before .before .if1 .left) (c .before .before .before .before .before .if2 .left))
 
--- src/field.rt:118:30
 add-t9 : tie.Need-add-t9
 add-t9 c = search needs
 
--- src/field.rt:102:1
 returns-4 : tie.Need-returns-4
 returns-4 c = read-bad _ _ (c .before .before .decimal .ensures) _ _ _ (c .enum-told .given .1) ∙ ap valOf (bound-some _ _ _ (c .before .before .before .before .before .is-dash .ensures) (c .before .before .before .before .if1 .left) (c .before .before .before .if2 .left))
 
--- src/field.rt:102:1
 returns-5 : tie.Need-returns-5
 returns-5 c = read-over _ _ (c .before .before .decimal .ensures) _ _ _ (omega arith) (c .enum-told2 .given .1) ∙ ap valOf (bound-some _ _ _ (c .before .before .before .before .before .is-dash .ensures) (c .before .before .before .before .if1 .left) (c .before .before .before .if2 .left))
 
--- src/field.rt:102:1
 returns-6 : tie.Need-returns-6
 returns-6 c = read-bound _ _ (c .before .before .before .before .decimal .ensures) _ (c .before .before .n .given .1) _ (omega arith) ∙ ap valOf (bound-some _ _ _ (c .before .before .before .before .before .before .before .is-dash .ensures) (c .before .before .before .before .before .before .if1 .left) (c .before .before .before .before .before .if2 .left))
 

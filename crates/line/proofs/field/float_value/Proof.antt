@@ -7,19 +7,15 @@ use Rattle.line.proofs.field.float_value.Reads as reads
 use Rattle.line.proofs.field.float_value.Lts as lts
 use Rattle.text.proofs.all_hex.Reads as all-hex-reads
 
--- src/field.rt:198:9
 returns : tie.Need-returns
 returns c = float-length _ (c .if1 .taken)
 
--- src/field.rt:200:8
 all-hex-requires : tie.Need-all-hex-requires
 all-hex-requires c κs = search needs
 
--- src/field.rt:201:9
 returns-2 : tie.Need-returns-2
 returns-2 c = float-fine _ _ (c .before .all-hex .ensures) (c .if2 .taken) (omega arith)
 
--- src/field.rt:194:1
 returns-3 : tie.Need-returns-3
 returns-3 c = float-bad _ _ (c .before .all-hex .ensures) (c .if2 .left)
 

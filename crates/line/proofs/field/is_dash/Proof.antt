@@ -6,19 +6,15 @@ use Rattle.line.proofs.field.is_dash.Tie as tie
 use Rattle.line.proofs.field.is_dash.Reads as reads
 use Rattle.line.proofs.field.is_dash.Lts as lts
 
--- src/field.rt:38:9
 returns : tie.Need-returns
 returns c = dash-not _ (c .if1 .taken)
 
--- src/field.rt:40:8
 shared-slice-read-if2 : tie.Need-shared-slice-read-if2
 shared-slice-read-if2 c = search needs
 
--- src/field.rt:41:9
 returns-2 : tie.Need-returns-2
 returns-2 c = dash-is _ (omega arith) (c .if2 .taken)
 
--- src/field.rt:34:1
 returns-3 : tie.Need-returns-3
 returns-3 c = dash-other _ (c .if2 .left)
 

@@ -8,23 +8,18 @@ use Rattle.line.proofs.field.name_value.Reads as reads
 use Rattle.line.proofs.field.name_value.Lts as lts
 use Rattle.text.proofs.all_hex.Reads as all-hex-reads
 
--- src/field.rt:79:9
 all-hex-requires : tie.Need-all-hex-requires
 all-hex-requires c κs = search needs
 
--- src/field.rt:80:9
 returns : tie.Need-returns
 returns c = name-bad _ _ (c .before .all-hex .ensures) _ (not-true _ (c .if1 .taken))
 
--- src/field.rt:83:9
 returns-2 : tie.Need-returns-2
 returns-2 c = name-odd _ _ (c .before .before .all-hex .ensures) _ (not-false _ (c .before .if1 .left)) (c .if2 .taken)
 
--- src/field.rt:86:9
 returns-3 : tie.Need-returns-3
 returns-3 c = name-long _ _ (c .before .before .before .all-hex .ensures) _ (not-false _ (c .before .before .if1 .left)) (omega arith) (c .if3 .taken)
 
--- src/field.rt:76:1
 returns-4 : tie.Need-returns-4
 returns-4 c = name-fine _ _ (c .before .before .before .all-hex .ensures) _ (not-false _ (c .before .before .if1 .left)) (omega arith) (c .if3 .left)
 

@@ -8,19 +8,15 @@ use Rattle.line.proofs.field.optional_value.Lts as lts
 use Rattle.line.proofs.field.is_dash.Reads as is-dash-reads
 use Rattle.line.proofs.field.ranged.Reads as ranged-reads
 
--- src/field.rt:69:8
 is-dash-requires : tie.Need-is-dash-requires
 is-dash-requires c κs = search needs
 
--- src/field.rt:70:9
 returns : tie.Need-returns
 returns c = optional-dash _ 0 _ (c .before .is-dash .ensures) (c .if1 .taken)
 
--- src/field.rt:72:5
 ranged-requires : tie.Need-ranged-requires
 ranged-requires c κs = search needs
 
--- src/field.rt:66:1
 returns-2 : tie.Need-returns-2
 returns-2 c = c .ranged .ensures ∙ optional-some _ 0 _ (c .before .before .is-dash .ensures) (c .before .if1 .left)
 

@@ -4,11 +4,9 @@ use Rattle.line.proofs.field.pick.Tie as tie
 use Rattle.line.proofs.field.pick.Reads as reads
 use Rattle.line.proofs.field.pick.Lts as lts
 
--- src/field.rt:47:1
 returns : tie.Need-returns
 returns c = rw (eq-eqb _ _ (c .if1 .taken))
 
--- src/field.rt:47:1
 returns-2 : tie.Need-returns-2
 returns-2 c = rw (ne-eqb _ _ (c .if1 .left))
 

@@ -7,39 +7,30 @@ use Rattle.line.proofs.field.positive_value.Reads as reads
 use Rattle.line.proofs.field.positive_value.Lts as lts
 use Rattle.text.proofs.decimal.Reads as decimal-reads
 
--- src/field.rt:166:11
 decimal-requires : tie.Need-decimal-requires
 decimal-requires c κs = search needs
 
--- src/field.rt:167:21
 enum-told : tie.Need-enum-told
 enum-told c = search needs
 
--- src/field.rt:168:22
 enum-told-2 : tie.Need-enum-told-2
 enum-told-2 c = search needs
 
--- src/field.rt:169:17
 enum-known-n : tie.Need-enum-known-n
 enum-known-n c = search needs
 
--- src/field.rt:171:17
 returns : tie.Need-returns
 returns c = read-out _ _ (c .before .before .before .before .decimal .ensures) _ _ _ _ (c .before .before .n .given .1) (λ p q. omega arith)
 
--- src/field.rt:175:20
 add-t6 : tie.Need-add-t6
 add-t6 c = search needs
 
--- src/field.rt:163:1
 returns-2 : tie.Need-returns-2
 returns-2 c = read-bad _ _ (c .before .before .decimal .ensures) _ _ _ (c .enum-told .given .1)
 
--- src/field.rt:163:1
 returns-3 : tie.Need-returns-3
 returns-3 c = read-over _ _ (c .before .before .decimal .ensures) _ _ _ (omega arith) (c .enum-told2 .given .1)
 
--- src/field.rt:163:1
 returns-4 : tie.Need-returns-4
 returns-4 c = read-positive _ _ (c .before .before .before .before .decimal .ensures) _ (c .before .before .n .given .1) (c .if1 .left)
 

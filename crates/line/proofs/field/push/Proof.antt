@@ -5,27 +5,21 @@ use Rattle.line.proofs.field.push.Reads as reads
 use Rattle.line.proofs.field.push.Lts as lts
 use Rattle.line.proofs.field.pick.Reads as pick-reads
 
--- src/field.rt:61:14
 pick-requires : tie.Need-pick-requires
 pick-requires c κs = search needs
 
--- src/field.rt:62:17
 pick-requires-2 : tie.Need-pick-requires-2
 pick-requires-2 c κs = search needs
 
--- src/field.rt:63:15
 pick-requires-3 : tie.Need-pick-requires-3
 pick-requires-3 c κs = search needs
 
--- src/field.rt:64:16
 pick-requires-4 : tie.Need-pick-requires-4
 pick-requires-4 c κs = search needs
 
--- src/field.rt:65:14
 add-t12 : tie.Need-add-t12
 add-t12 c = search needs
 
--- src/field.rt:53:1
 returns : tie.Need-returns
 returns c = cc
 

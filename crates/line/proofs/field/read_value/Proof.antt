@@ -14,115 +14,87 @@ use Rattle.line.proofs.field.optional_value.Reads as optional-value-rea
 use Rattle.line.proofs.field.ranged.Reads as ranged-reads
 use Rattle.line.proofs.field.signed_value.Reads as signed-value-reads
 
--- src/field.rt:211:14
 ranged-requires : tie.Need-ranged-requires
 ranged-requires c κs = search needs
 
--- src/field.rt:212:14
 optional-value-requires : tie.Need-optional-value-requires
 optional-value-requires c κs = search needs
 
--- src/field.rt:213:14
 name-value-requires : tie.Need-name-value-requires
 name-value-requires c κs = search needs
 
--- src/field.rt:214:15
 alias-value-requires : tie.Need-alias-value-requires
 alias-value-requires c κs = search needs
 
--- src/field.rt:215:15
 float-value-requires : tie.Need-float-value-requires
 float-value-requires c κs = search needs
 
--- src/field.rt:216:15
 bound-value-requires : tie.Need-bound-value-requires
 bound-value-requires c κs = search needs
 
--- src/field.rt:217:15
 letter-value-requires : tie.Need-letter-value-requires
 letter-value-requires c κs = search needs
 
--- src/field.rt:218:15
 signed-value-requires : tie.Need-signed-value-requires
 signed-value-requires c κs = search needs
 
--- src/field.rt:219:14
 ranged-requires-2 : tie.Need-ranged-requires-2
 ranged-requires-2 c κs = search needs
 
--- src/field.rt:220:14
 ranged-requires-3 : tie.Need-ranged-requires-3
 ranged-requires-3 c κs = search needs
 
--- src/field.rt:221:14
 ranged-requires-4 : tie.Need-ranged-requires-4
 ranged-requires-4 c κs = search needs
 
--- src/field.rt:222:14
 ranged-requires-5 : tie.Need-ranged-requires-5
 ranged-requires-5 c κs = search needs
 
--- src/field.rt:223:14
 ranged-requires-6 : tie.Need-ranged-requires-6
 ranged-requires-6 c κs = search needs
 
--- src/field.rt:224:14
 ranged-requires-7 : tie.Need-ranged-requires-7
 ranged-requires-7 c κs = search needs
 
--- src/field.rt:207:1
 returns : tie.Need-returns
 returns c = c .ranged .ensures ∙ as-variable _ _ _ (c .before .match .keys1)
 
--- src/field.rt:207:1
 returns-2 : tie.Need-returns-2
 returns-2 c = c .optional-value .ensures ∙ as-optional _ _ _ (c .before .match .keys2)
 
--- src/field.rt:207:1
 returns-3 : tie.Need-returns-3
 returns-3 c = as-name _ _ _ _ _ (c .name-value .ensures) (c .before .match .keys3)
 
--- src/field.rt:207:1
 returns-4 : tie.Need-returns-4
 returns-4 c = c .alias-value .ensures ∙ as-aliased _ _ _ (c .before .match .keys4)
 
--- src/field.rt:207:1
 returns-5 : tie.Need-returns-5
 returns-5 c = c .float-value .ensures ∙ as-float _ _ _ (c .before .match .keys5)
 
--- src/field.rt:207:1
 returns-6 : tie.Need-returns-6
 returns-6 c = c .bound-value .ensures ∙ as-bound _ _ _ (c .before .match .keys6)
 
--- src/field.rt:207:1
 returns-7 : tie.Need-returns-7
 returns-7 c = c .letter-value .ensures ∙ as-letter _ _ _ (c .before .match .keys7)
 
--- src/field.rt:207:1
 returns-8 : tie.Need-returns-8
 returns-8 c = c .signed-value .ensures ∙ as-signed _ _ _ (c .before .match .keys8)
 
--- src/field.rt:207:1
 returns-9 : tie.Need-returns-9
 returns-9 c = c .ranged2 .ensures ∙ as-two _ _ _ (c .before .match .keys9)
 
--- src/field.rt:207:1
 returns-10 : tie.Need-returns-10
 returns-10 c = c .ranged3 .ensures ∙ as-three _ _ _ (c .before .match .keys10)
 
--- src/field.rt:207:1
 returns-11 : tie.Need-returns-11
 returns-11 c = c .ranged4 .ensures ∙ as-operator _ _ _ (c .before .match .keys11)
 
--- src/field.rt:207:1
 returns-12 : tie.Need-returns-12
 returns-12 c = c .ranged5 .ensures ∙ as-count _ _ _ (c .before .match .keys12)
 
--- src/field.rt:207:1
 returns-13 : tie.Need-returns-13
 returns-13 c = c .ranged6 .ensures ∙ as-edition _ _ _ (c .before .match .keys13)
 
--- src/field.rt:207:1
 returns-14 : tie.Need-returns-14
 returns-14 c = c .ranged7 .ensures ∙ as-bit _ _ _ (c .before .match .rest .0 .0 .0 .0 .0 .0 .0 .0 .0 .0 .0 .0 .1) (c .before .match .rest .0 .0 .0 .0 .0 .0 .0 .0 .0 .0 .0 .1) (c .before .match .rest .0 .0 .0 .0 .0 .0 .0 .0 .0 .0 .1) (c .before .match .rest .0 .0 .0 .0 .0 .0 .0 .0 .0 .1) (c .before .match .rest .0 .0 .0 .0 .0 .0 .0 .0 .1) (c .before .match .rest .0 .0 .0 .0 .0 .0 .0 .1) (c .before .match .rest .0 .0 .0 .0 .0 .0 .1) (c .before .match .rest .0 .0 .0 .0 .0 .1) (c .before .match .rest .0 .0 .0 .0 .1) (c .before .match .rest .0 .0 .0 .1) (c .before .match .rest .0 .0 .1) (c .before .match .rest .0 .1) (c .before .match .rest .1)
 

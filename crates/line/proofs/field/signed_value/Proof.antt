@@ -9,39 +9,30 @@ use Rattle.line.proofs.field.signed_value.Lts as lts
 use Rattle.line.proofs.field.negative_value.Reads as negative-value-reads
 use Rattle.line.proofs.field.positive_value.Reads as positive-value-reads
 
--- src/field.rt:185:9
 returns : tie.Need-returns
 returns c = signed-empty _ (c .if1 .taken)
 
--- src/field.rt:187:8
 shared-slice-read-if2 : tie.Need-shared-slice-read-if2
 shared-slice-read-if2 c = search needs
 
--- src/field.rt:188:31
 sub-negative-value : tie.Need-sub-negative-value
 sub-negative-value c = search needs
 
--- src/field.rt:188:31
 part-negative-value-start : tie.Need-part-negative-value-start
 part-negative-value-start c = search needs
 
--- src/field.rt:188:31
 part-negative-value-end : tie.Need-part-negative-value-end
 part-negative-value-end c = search needs
 
--- src/field.rt:188:9
 negative-value-requires : tie.Need-negative-value-requires
 negative-value-requires c κs = search needs
 
--- src/field.rt:188:9
 returns-2 : tie.Need-returns-2
 returns-2 c = c .negative-value .ensures ∙ signed-minus _ (omega arith) (c .before .before .if2 .taken)
 
--- src/field.rt:190:5
 positive-value-requires : tie.Need-positive-value-requires
 positive-value-requires c κs = search needs
 
--- src/field.rt:181:1
 returns-3 : tie.Need-returns-3
 returns-3 c = c .positive-value .ensures ∙ signed-plain _ (omega arith) (c .before .if2 .left)
 

@@ -17,31 +17,24 @@ Inv-loop line from n₀ i₀ n i = (n + length (split 44 (drop i line)) ≡ leng
 abbrev μ-loop : tie.MeasureT-loop
 μ-loop line from n₀ i₀ n i = length line - i
 
--- src/line.rt:55:5
 loop-holds : tie.Need-loop-holds Inv-loop μ-loop
 loop-holds c = (omega arith, c .pre, omega arith)
 
--- src/line.rt:56:12
 shared-slice-read-if1 : tie.Need-shared-slice-read-if1 Inv-loop μ-loop
 shared-slice-read-if1 c = search needs
 
--- src/line.rt:57:13
 add-n : tie.Need-add-n Inv-loop μ-loop
 add-n c = search needs
 
--- src/line.rt:59:9
 add-i : tie.Need-add-i Inv-loop μ-loop
 add-i c = search needs
 
--- src/line.rt:55:5
 loop-less : tie.Need-loop-less Inv-loop μ-loop
 loop-less c = search needs
 
--- src/line.rt:55:5
 loop-again : tie.Need-loop-again Inv-loop μ-loop
 loop-again c = let l = c .before .before .before in ⊎-elim (λ w. omega (arith, comma-hit (l .before .args .line .now) (l .loop .i) (c .before .before .loop-test .taken) (w .0 .taken))) (λ w. omega (arith, comma-miss (l .before .args .line .now) (l .loop .i) (c .before .before .loop-test .taken) (w .0 .left))) (c .if1 .came)
 
--- src/line.rt:49:1
 returns : tie.Need-returns Inv-loop μ-loop
 returns c = let l = c .before in omega (arith, l .loop .inv .0, comma-end (l .before .args .line .now) (l .loop .i) (c .loop-test .left))
 

@@ -11,43 +11,33 @@ use Rattle.line.proofs.line.head_of.Reads as head-of-reads
 use Rattle.line.proofs.line.read_words.Reads as read-words-reads
 use Rattle.text.proofs.line_end.Reads as line-end-reads
 
--- src/line.rt:150:9
 line-end-requires : tie.Need-line-end-requires
 line-end-requires c κs = search needs
 
--- src/line.rt:152:34
 no-fields-requires : tie.Need-no-fields-requires
 no-fields-requires c κs = search needs
 
--- src/line.rt:152:9
 head-of-requires : tie.Need-head-of-requires
 head-of-requires c κs = search needs
 
--- src/line.rt:152:9
 returns : tie.Need-returns
 returns c = rw (c .head-of .ensures) (read-cut _ _ _ (c .before .before .before .line-end .ensures) (c .before .before .if1 .taken) _ refl)
 
--- src/line.rt:154:16
 sub-read-words : tie.Need-sub-read-words
 sub-read-words c = search needs
 
--- src/line.rt:154:16
 part-read-words-start : tie.Need-part-read-words-start
 part-read-words-start c = search needs
 
--- src/line.rt:154:16
 part-read-words-end : tie.Need-part-read-words-end
 part-read-words-end c = search needs
 
--- src/line.rt:154:36
 add-read-words : tie.Need-add-read-words
 add-read-words c = search needs
 
--- src/line.rt:154:5
 read-words-requires : tie.Need-read-words-requires
 read-words-requires c κs = search needs
 
--- src/line.rt:146:1
 returns-2 : tie.Need-returns-2
 returns-2 c = read-whole _ _ _ (c .before .before .before .line-end .ensures) (c .before .before .if1 .left) _ (c .read-words .ensures .0) (c .read-words .ensures .1)
 

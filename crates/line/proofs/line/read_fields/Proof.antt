@@ -19,59 +19,45 @@ Inv-loop line from n shapes slots f₀ p₀ rest₀ j₀ f p rest j = FillInv li
 abbrev μ-loop : tie.MeasureT-loop
 μ-loop line from n shapes slots f₀ p₀ rest₀ j₀ f p rest j = n - j
 
--- src/line.rt:69:9
 no-fields-requires : tie.Need-no-fields-requires Inv-loop μ-loop
 no-fields-requires c κs = search needs
 
--- src/line.rt:73:5
 loop-holds : tie.Need-loop-holds Inv-loop μ-loop
 loop-holds c = fill-start _ _ _ _ _ _ (c .no-fields .ensures) (c .before .before .pre .0) (c .before .before .pre .1)
 
--- src/line.rt:74:13
 field-end-requires : tie.Need-field-end-requires Inv-loop μ-loop
 field-end-requires c κs = fill-inside _ _ _ _ _ _ _ _ _ (c .before .loop .inv) (c .loop-test .taken)
 
--- src/line.rt:76:28
 sub-read-value : tie.Need-sub-read-value Inv-loop μ-loop
 sub-read-value c = search needs
 
--- src/line.rt:76:28
 part-read-value-start : tie.Need-part-read-value-start Inv-loop μ-loop
 part-read-value-start c = c .field-end .ensures .from
 
--- src/line.rt:76:28
 part-read-value-end : tie.Need-part-read-value-end Inv-loop μ-loop
 part-read-value-end c = c .field-end .ensures .within
 
--- src/line.rt:76:13
 read-value-requires : tie.Need-read-value-requires Inv-loop μ-loop
 read-value-requires c κs = search needs
 
--- src/line.rt:78:13
 returns : tie.Need-returns Inv-loop μ-loop
 returns c = fill-stop _ _ _ _ _ _ _ _ _ (c .before .before .before .before .before .before .loop .inv) (c .before .before .before .before .before .loop-test .taken) _ (c .before .before .before .before .field-end .ensures) _ (c .before .before .read-value .ensures) (c .if1 .taken)
 
--- src/line.rt:83:9
 store-requires : tie.Need-store-requires Inv-loop μ-loop
 store-requires c κs = let b = store-small _ _ _ _ (c .before .before .read-value .ensures) in (omega arith, b .0, b .1)
 
--- src/line.rt:84:13
 add-p : tie.Need-add-p Inv-loop μ-loop
 add-p c = search needs
 
--- src/line.rt:86:9
 add-j : tie.Need-add-j Inv-loop μ-loop
 add-j c = search needs
 
--- src/line.rt:73:5
 loop-less : tie.Need-loop-less Inv-loop μ-loop
 loop-less c = search needs
 
--- src/line.rt:73:5
 loop-again : tie.Need-loop-again Inv-loop μ-loop
 loop-again c = fill-on _ _ _ _ _ _ _ _ _ (c .before .before .before .before .before .before .before .loop .inv) (c .before .before .before .before .before .before .loop-test .taken) _ (c .before .before .before .before .before .field-end .ensures) _ (c .before .before .before .read-value .ensures) (omega arith) _ (c .store .ensures)
 
--- src/line.rt:65:1
 returns-2 : tie.Need-returns-2 Inv-loop μ-loop
 returns-2 c = fill-end _ _ _ _ _ _ _ _ _ (c .before .loop .inv) (c .loop-test .left)
 

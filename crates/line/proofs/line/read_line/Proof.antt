@@ -7,22 +7,18 @@ use Rattle.line.proofs.line.read_line.Statement.{statement}
 use Rattle.line.proofs.line.read_line.Tie as tie
 use Rattle.line.proofs.line.read_line.Reads as reads
 use Rattle.line.proofs.line.read_line.Lts as lts
-use Rattle.line.proofs.line.quick.Reads as quick-reads
+use Rattle.line.proofs.quick.quick.Reads as quick-reads
 use Rattle.line.proofs.line.read_any.Reads as read-any-reads
 
--- src/line.rt:312:9
 quick-requires : tie.Need-quick-requires
 quick-requires c κs = search needs
 
--- src/line.rt:314:9
 returns : tie.Need-returns
 returns c = c .before .before .quick .ensures (omega arith)
 
--- src/line.rt:316:5
 read-any-requires : tie.Need-read-any-requires
 read-any-requires c κs = search needs
 
--- src/line.rt:308:1
 returns-2 : tie.Need-returns-2
 returns-2 c = search needs
 

@@ -16,79 +16,60 @@ use Rattle.line.proofs.table.slots_of.Reads as slots-of-reads
 use Rattle.line.proofs.table.word_of.Reads as word-of-reads
 use Rattle.text.proofs.field_end.Reads as field-end-reads
 
--- src/line.rt:130:9
 field-end-requires : tie.Need-field-end-requires
 field-end-requires c κs = search needs
 
--- src/line.rt:131:34
 sub-word-code : tie.Need-sub-word-code
 sub-word-code c = search needs
 
--- src/line.rt:131:34
 part-word-code-start : tie.Need-part-word-code-start
 part-word-code-start c = c .field-end .ensures .from
 
--- src/line.rt:131:34
 part-word-code-end : tie.Need-part-word-code-end
 part-word-code-end c = c .field-end .ensures .within
 
--- src/line.rt:131:24
 word-code-requires : tie.Need-word-code-requires
 word-code-requires c κs = search needs
 
--- src/line.rt:131:9
 word-of-requires : tie.Need-word-of-requires
 word-of-requires c κs = search needs
 
--- src/line.rt:133:36
 no-fields-requires : tie.Need-no-fields-requires
 no-fields-requires c κs = search needs
 
--- src/line.rt:133:9
 head-of-requires : tie.Need-head-of-requires
 head-of-requires c κs = search needs
 
--- src/line.rt:133:9
 returns : tie.Need-returns
 returns c = rw (c .head-of .ensures) (refl, read-unknown _ _ _ (c .before .before .before .before .before .before .before .before .pre) (c .before .before .before .before .before .before .field-end .ensures) (λ i. omega (arith, c .before .before .before .before .before .before .before .shared-slice-known .given i)) _ _ (c .before .before .before .before .word-code .ensures) (c .before .before .before .word-of .ensures) (c .before .before .if1 .taken) _ refl)
 
--- src/line.rt:135:9
 shapes-of-requires : tie.Need-shapes-of-requires
 shapes-of-requires c κs = search needs
 
--- src/line.rt:137:8
 commas-requires : tie.Need-commas-requires
 commas-requires c κs = search needs
 
--- src/line.rt:138:39
 no-fields-requires-2 : tie.Need-no-fields-requires-2
 no-fields-requires-2 c κs = search needs
 
--- src/line.rt:138:9
 head-of-requires-2 : tie.Need-head-of-requires-2
 head-of-requires-2 c κs = search needs
 
--- src/line.rt:138:9
 returns-2 : tie.Need-returns-2
 returns-2 c = rw (c .head-of2 .ensures) (refl, read-count _ _ _ (c .before .before .before .before .before .before .before .before .before .before .before .pre) (c .before .before .before .before .before .before .before .before .before .field-end .ensures) (λ i. omega (arith, c .before .before .before .before .before .before .before .before .before .before .shared-slice-known .given i)) _ _ (c .before .before .before .before .before .before .before .word-code .ensures) (c .before .before .before .before .before .before .word-of .ensures) (c .before .before .before .before .before .if1 .left) _ _ (c .before .before .before .before .shapes-of .ensures) (c .before .before .before .commas .ensures) (c .before .before .if2 .taken) _ refl refl)
 
--- src/line.rt:140:31
 add-read-fields : tie.Need-add-read-fields
 add-read-fields c = search needs
 
--- src/line.rt:140:54
 slots-of-requires : tie.Need-slots-of-requires
 slots-of-requires c κs = search needs
 
--- src/line.rt:140:9
 read-fields-requires : tie.Need-read-fields-requires
 read-fields-requires c κs = (read-many _ _ _ (c .before .before .before .before .before .before .before .before .before .before .pre) (c .before .before .before .before .before .before .before .before .field-end .ensures) (λ i. omega (arith, c .before .before .before .before .before .before .before .before .before .shared-slice-known .given i)) _ _ (c .before .before .before .before .before .before .word-code .ensures) (c .before .before .before .before .before .word-of .ensures) (c .before .before .before .before .if1 .left) _ _ (c .before .before .before .shapes-of .ensures) (c .before .before .commas .ensures) (omega arith), omega arith)
 
--- src/line.rt:142:5
 head-of-requires-3 : tie.Need-head-of-requires-3
 head-of-requires-3 c κs = search needs
 
--- src/line.rt:126:1
 returns-3 : tie.Need-returns-3
 returns-3 c = rw (c .head-of3 .ensures) (refl, read-filled _ _ _ (c .before .before .before .before .before .before .before .before .before .before .before .before .before .pre) (c .before .before .before .before .before .before .before .before .before .before .before .field-end .ensures) (λ i. omega (arith, c .before .before .before .before .before .before .before .before .before .before .before .before .shared-slice-known .given i)) _ _ (c .before .before .before .before .before .before .before .before .before .word-code .ensures) (c .before .before .before .before .before .before .before .before .word-of .ensures) (c .before .before .before .before .before .before .before .if1 .left) _ _ (c .before .before .before .before .before .before .shapes-of .ensures) (c .before .before .before .before .before .commas .ensures) (omega arith) _ _ (c .before .before .before .slots-of .ensures) (c .before .before .read-fields .ensures) _)
 

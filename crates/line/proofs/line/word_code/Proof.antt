@@ -9,7 +9,7 @@ use Rattle.line.proofs.line.word_code.Statement.{statement}
 use Rattle.line.proofs.line.word_code.Tie as tie
 use Rattle.line.proofs.line.word_code.Reads as reads
 use Rattle.line.proofs.line.word_code.Lts as lts
-use Rattle.line.proofs.field.wide.Reads as wide-reads
+use Rattle.line.proofs.in_place.wide.Reads as wide-reads
 
 abbrev Inv-loop : tie.InvT-loop
 Inv-loop word code₀ i₀ code i = (codeFrom 1 word ≡ codeFrom code (drop i word)) × (i ≤ length word)
@@ -17,43 +17,33 @@ Inv-loop word code₀ i₀ code i = (codeFrom 1 word ≡ codeFrom code (drop i w
 abbrev μ-loop : tie.MeasureT-loop
 μ-loop word code₀ i₀ code i = length word - i
 
--- src/line.rt:38:5
 loop-holds : tie.Need-loop-holds Inv-loop μ-loop
 loop-holds c = (refl, omega arith)
 
--- src/line.rt:40:13
 returns : tie.Need-returns Inv-loop μ-loop
 returns c = sym (c .before .before .loop .inv .0 ∙ code-over _ _ _ (c .before .loop-test .taken) (c .if1 .taken))
 
--- src/line.rt:42:16
 mul-code : tie.Need-mul-code Inv-loop μ-loop
 mul-code c = search needs
 
--- src/line.rt:42:34
 shared-slice-read-wide : tie.Need-shared-slice-read-wide Inv-loop μ-loop
 shared-slice-read-wide c = search needs
 
--- src/line.rt:42:29
 wide-requires : tie.Need-wide-requires Inv-loop μ-loop
 wide-requires c κs = search needs
 
--- src/line.rt:42:16
 add-code : tie.Need-add-code Inv-loop μ-loop
 add-code c = search needs
 
--- src/line.rt:43:9
 add-i : tie.Need-add-i Inv-loop μ-loop
 add-i c = search needs
 
--- src/line.rt:38:5
 loop-less : tie.Need-loop-less Inv-loop μ-loop
 loop-less c = search needs
 
--- src/line.rt:38:5
 loop-again : tie.Need-loop-again Inv-loop μ-loop
 loop-again c = (c .before .before .before .before .loop .inv .0 ∙ code-on _ _ _ (c .before .before .before .loop-test .taken) (c .before .before .if1 .left) ∙ rw (c .wide .ensures .0), omega arith)
 
--- src/line.rt:33:1
 returns-2 : tie.Need-returns-2 Inv-loop μ-loop
 returns-2 c = sym (c .before .loop .inv .0 ∙ code-end _ _ _ (c .loop-test .left))
 

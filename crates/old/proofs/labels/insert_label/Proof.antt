@@ -5,47 +5,36 @@ use borrow.Author.Needs.{needs}
 use Rattle.old.proofs.labels.insert_label.Statement.{statement}
 use Rattle.old.proofs.labels.insert_label.Tie as tie
 
--- src/labels.rt:74:13
 add-k : tie.Need-add-k
 add-k c = search needs
 
--- src/labels.rt:75:8
 add-if1 : tie.Need-add-if1
 add-if1 c = search needs
 
--- src/labels.rt:76:9
 returns : tie.Need-returns
 returns c = let st = c .before .before .before in let a = st .args in label-over (a .work .now) (a .name .now) (a .n) (a .p) (st .pre .0) (st .pre .1) (c .if1 .taken)
 
--- src/labels.rt:78:29
 add-slide-up : tie.Need-add-slide-up
 add-slide-up c = search needs
 
--- src/labels.rt:78:36
 sub-slide-up : tie.Need-sub-slide-up
 sub-slide-up c = search needs
 
--- src/labels.rt:78:5
 slide-up-requires : tie.Need-slide-up-requires
 slide-up-requires c κs = search needs
 
--- src/labels.rt:79:9
 append-requires : tie.Need-append-requires
 append-requires c κs = search needs
 
--- src/labels.rt:80:5
 slice-write-work : tie.Need-slice-write-work
 slice-write-work c = search needs
 
--- src/labels.rt:81:16
 add-t7 : tie.Need-add-t7
 add-t7 c = search needs
 
--- src/labels.rt:70:1
 same-length : tie.Need-same-length
 same-length c = let st = c .before .before .before .before .before .before .before .before .before .before .before in let a = st .args in label-kept (a .work .now) (a .name .now) (a .n) (a .p) (st .pre .0) (st .pre .1) _ _ _ (omega (arith, st .pre .2, c .before .before .before .before .before .before .before .before .if1 .left)) (c .before .before .before .before .before .before .slide-up .ensures) (c .before .before .append .ensures .1) (c .before .before .append .ensures .0)
 
--- src/labels.rt:70:1
 returns-2 : tie.Need-returns-2
 returns-2 c = let st = c .before .before .before .before .before .before .before .before .before .before .before in let a = st .args in label-fronted (a .work .now) (a .name .now) (a .n) (a .p) (st .pre .0) (st .pre .1) _ _ _ (omega (arith, st .pre .2, c .before .before .before .before .before .before .before .before .if1 .left)) (c .before .before .before .before .before .before .slide-up .ensures) (c .before .before .append .ensures .1) (c .before .before .append .ensures .0) (c .before .before .before .before .before .before .before .before .if1 .left)
 

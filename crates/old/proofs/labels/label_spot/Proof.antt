@@ -16,75 +16,57 @@ Inv-loop work n name lo₀ hi₀ lo hi = (hi + 2 ≤ n) × ((ls : List Bytes) (m
 abbrev μ-loop : tie.MeasureT-loop
 μ-loop work n name lo₀ hi₀ lo hi = hi - lo
 
--- src/labels.rt:50:18
 sub-hi : tie.Need-sub-hi Inv-loop μ-loop
 sub-hi c = let st = c .before .before in let a = st .args in let w = st .pre in omega (arith, node-long (a .work .now) (a .n) (a .name .now) (w .labels) (w .name) (w .front) (w .spelt))
 
--- src/labels.rt:51:5
 loop-holds : tie.Need-loop-holds Inv-loop μ-loop
 loop-holds c = let st = c .before .before in let a = st .args in let w = st .pre in (omega (arith, node-long (a .work .now) (a .n) (a .name .now) (w .labels) (w .name) (w .front) (w .spelt)), λ ls m f z. seeking (a .work .now) (a .n) (a .name .now) ls m f z)
 
--- src/labels.rt:52:13
 middle-label-requires : tie.Need-middle-label-requires Inv-loop μ-loop
 middle-label-requires c κs = (c .loop-test .taken, omega (arith, c .before .loop .inv .0, c .before .before .before .before .pre .front .at .inside))
 
--- src/labels.rt:53:13
 field-end-requires : tie.Need-field-end-requires Inv-loop μ-loop
 field-end-requires c κs = omega (arith, c .middle-label .ensures .inside, c .before .before .loop .inv .0, c .before .before .before .before .before .pre .front .at .inside)
 
--- src/labels.rt:54:29
 sub-compare : tie.Need-sub-compare Inv-loop μ-loop
 sub-compare c = c .field-end .ensures .from
 
--- src/labels.rt:54:29
 part-compare-start : tie.Need-part-compare-start Inv-loop μ-loop
 part-compare-start c = search needs
 
--- src/labels.rt:54:29
 part-compare-end : tie.Need-part-compare-end Inv-loop μ-loop
 part-compare-end c = search needs
 
--- src/labels.rt:54:15
 compare-requires : tie.Need-compare-requires Inv-loop μ-loop
 compare-requires c κs = tt
 
--- src/labels.rt:56:22
 enum-told : tie.Need-enum-told Inv-loop μ-loop
 enum-told c = search needs
 
--- src/labels.rt:56:22
 add-lo : tie.Need-add-lo Inv-loop μ-loop
 add-lo c = omega (arith, c .before .before .before .before .field-end .ensures .within)
 
--- src/labels.rt:51:5
 loop-less : tie.Need-loop-less Inv-loop μ-loop
 loop-less c = omega (arith, c .before .before .before .before .field-end .ensures .from, c .before .before .before .before .before .middle-label .ensures .from, c .before .before .before .before .before .before .loop-test .taken)
 
--- src/labels.rt:51:5
 loop-again : tie.Need-loop-again Inv-loop μ-loop
 loop-again c = let a = c .before .before .before .before .before .before .before .before .before .before .args in (c .before .before .before .before .before .before .before .loop .inv .0, λ ls m f z. seek-up (a .work .now) (a .n) (a .name .now) ls m f z (c .before .before .before .before .before .before .before .loop .lo) (c .before .before .before .before .before .before .before .loop .hi) (c .before .before .before .before .before .before .before .loop .inv .1 ls m f z) (c .before .before .before .before .before .before .loop-test .taken) (c .before .before .before .before .before .before .before .loop .inv .0) _ (c .before .before .before .before .before .middle-label .ensures) _ (c .before .before .before .before .field-end .ensures) _ (c .before .before .compare .ensures) (c .enum-told .given .1))
 
--- src/labels.rt:59:17
 enum-told-2 : tie.Need-enum-told-2 Inv-loop μ-loop
 enum-told-2 c = search needs
 
--- src/labels.rt:59:17
 returns : tie.Need-returns Inv-loop μ-loop
 returns c ls m f z = let a = c .before .before .before .before .before .before .before .before .before .before .args in seek-there (a .work .now) (a .n) (a .name .now) ls m f z (c .before .before .before .before .before .before .before .loop .lo) (c .before .before .before .before .before .before .before .loop .hi) (c .before .before .before .before .before .before .before .loop .inv .1 ls m f z) (c .before .before .before .before .before .before .loop-test .taken) (c .before .before .before .before .before .before .before .loop .inv .0) _ (c .before .before .before .before .before .middle-label .ensures) _ (c .before .before .before .before .field-end .ensures) _ (c .before .before .compare .ensures) (c .enum-told2 .given .1)
 
--- src/labels.rt:62:17
 enum-told-3 : tie.Need-enum-told-3 Inv-loop μ-loop
 enum-told-3 c = search needs
 
--- src/labels.rt:51:5
 loop-less-2 : tie.Need-loop-less-2 Inv-loop μ-loop
 loop-less-2 c = omega (arith, c .before .before .before .before .before .middle-label .ensures .inside, c .before .before .before .before .before .middle-label .ensures .from, c .before .before .before .before .before .before .loop-test .taken)
 
--- src/labels.rt:51:5
 loop-again-2 : tie.Need-loop-again-2 Inv-loop μ-loop
 loop-again-2 c = let a = c .before .before .before .before .before .before .before .before .before .before .args in (omega (arith, c .before .before .before .before .before .before .before .loop .inv .0, c .before .before .before .before .before .middle-label .ensures .inside), λ ls m f z. seek-down (a .work .now) (a .n) (a .name .now) ls m f z (c .before .before .before .before .before .before .before .loop .lo) (c .before .before .before .before .before .before .before .loop .hi) (c .before .before .before .before .before .before .before .loop .inv .1 ls m f z) (c .before .before .before .before .before .before .loop-test .taken) (c .before .before .before .before .before .before .before .loop .inv .0) _ (c .before .before .before .before .before .middle-label .ensures) _ (c .before .before .before .before .field-end .ensures) _ (c .before .before .compare .ensures) (c .enum-told3 .given .1))
 
--- src/labels.rt:45:1
 returns-2 : tie.Need-returns-2 Inv-loop μ-loop
 returns-2 c ls m f z = let a = c .before .before .before .before .args in seek-done (a .work .now) (a .n) (a .name .now) ls m f z (c .before .loop .lo) (c .before .loop .hi) (c .before .loop .inv .1 ls m f z) (c .loop-test .left)
 

@@ -11,39 +11,30 @@ Inv-loop work lo hi a₀ a = (lo ≤ a) × (a < hi)
 abbrev μ-loop : tie.MeasureT-loop
 μ-loop work lo hi a₀ a = a
 
--- src/labels.rt:34:9
 middle-requires : tie.Need-middle-requires Inv-loop μ-loop
 middle-requires c κs = c .before .pre .0
 
--- src/labels.rt:35:5
 loop-holds : tie.Need-loop-holds Inv-loop μ-loop
 loop-holds c = c .middle .ensures
 
--- src/labels.rt:36:17
 sub-if1 : tie.Need-sub-if1 Inv-loop μ-loop
 sub-if1 c = omega (arith, c .loop-test .taken)
 
--- src/labels.rt:36:12
 shared-slice-read-if1 : tie.Need-shared-slice-read-if1 Inv-loop μ-loop
 shared-slice-read-if1 c = omega (arith, c .before .loop-test .taken, c .before .before .loop .inv .1, c .before .before .before .before .before .pre .1)
 
--- src/labels.rt:37:13
 returns : tie.Need-returns Inv-loop μ-loop
 returns c = record { from = c .before .before .before .loop .inv .0; inside = c .before .before .before .loop .inv .1; comma = λ _. c .if1 .taken }
 
--- src/labels.rt:39:9
 sub-a : tie.Need-sub-a Inv-loop μ-loop
 sub-a c = omega (arith, c .before .before .loop-test .taken)
 
--- src/labels.rt:35:5
 loop-less : tie.Need-loop-less Inv-loop μ-loop
 loop-less c = omega (arith, c .before .before .loop-test .taken)
 
--- src/labels.rt:35:5
 loop-again : tie.Need-loop-again Inv-loop μ-loop
 loop-again c = (omega (arith, c .before .before .loop-test .taken), omega (arith, c .before .before .before .loop .inv .1))
 
--- src/labels.rt:30:1
 returns-2 : tie.Need-returns-2 Inv-loop μ-loop
 returns-2 c = record { from = omega arith; inside = c .before .before .before .before .pre .0; comma = λ h. absurd (omega (arith, h)) }
 

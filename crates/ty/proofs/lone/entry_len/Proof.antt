@@ -12,23 +12,18 @@ use Rattle.ty.proofs.lone.entry_len.Lts as lts
 use Rattle.text.proofs.field_end.Reads as field-end-reads
 use Rattle.ty.proofs.end.type_end.Reads as type-end-reads
 
--- src/lone.rt:17:9
 field-end-requires : tie.Need-field-end-requires
 field-end-requires c κs = let st = c .before in le-of-lt (head-in (st .args .s .now) (st .args .at) (some (st .pre .name)) (entry-head (st .args .s .now) (st .args .at) (st .pre .name) (st .pre .ty) (st .pre .at)))
 
--- src/lone.rt:18:25
 add-type-end : tie.Need-add-type-end
 add-type-end c = search needs
 
--- src/lone.rt:18:9
 type-end-requires : tie.Need-type-end-requires
 type-end-requires c κs = let st = c .before .before in entry-from (st .args .s .now) (st .args .at) (st .pre .name) (st .pre .ty) (st .pre .at) _ (c .field-end .ensures)
 
--- src/lone.rt:19:5
 sub-result : tie.Need-sub-result
 sub-result c = let st = c .before .before .before in omega (arith, entry-end (st .args .s .now) (st .args .at) (st .pre .name) (st .pre .ty) (st .pre .at) _ (c .before .field-end .ensures) _ (c .type-end .ensures))
 
--- src/lone.rt:13:1
 returns : tie.Need-returns
 returns c n t h = let st = c .before .before .before in let e = entry-end (st .args .s .now) (st .args .at) n t h _ (c .before .field-end .ensures) _ (c .type-end .ensures) in omega arith
 

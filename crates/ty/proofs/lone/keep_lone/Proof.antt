@@ -16,43 +16,33 @@ Inv-loop s₀ to m₀ next₀ s m next = LoneInv s₀ m₀ to s m next
 abbrev μ-loop : tie.MeasureT-loop
 μ-loop s₀ to m₀ next₀ s m next = (to - m .p) + (to - m .q)
 
--- src/lone.rt:28:9
 next-name-requires : tie.Need-next-name-requires Inv-loop μ-loop
 next-name-requires c κs = let st = c .before .before in lone-heads (st .args .s .now) (st .args .start) (st .args .to) (st .pre .0)
 
--- src/lone.rt:29:5
 loop-holds : tie.Need-loop-holds Inv-loop μ-loop
 loop-holds c = let st = c .before .before .before in lone-start (st .args .s .now) (st .args .start) (st .args .to) _ (st .pre .0) (st .pre .1) (c .next-name .ensures)
 
--- src/lone.rt:30:30
 taken-requires : tie.Need-taken-requires Inv-loop μ-loop
 taken-requires c κs = tt
 
--- src/lone.rt:30:13
 entry-len-requires : tie.Need-entry-len-requires Inv-loop μ-loop
 entry-len-requires c κs = lone-entry _ _ _ _ _ _ (c .before .before .before .loop .inv) (c .before .before .loop-test .taken) _ (c .taken .ensures)
 
--- src/lone.rt:31:9
 take-requires : tie.Need-take-requires Inv-loop μ-loop
 take-requires c κs = lone-taking _ _ _ _ _ _ (c .before .before .before .before .before .loop .inv) (c .before .before .before .before .loop-test .taken) _ _ (c .before .before .taken .ensures) (c .before .entry-len .ensures)
 
--- src/lone.rt:32:9
 next-name-requires-2 : tie.Need-next-name-requires-2 Inv-loop μ-loop
 next-name-requires-2 c κs = lone-heads-again _ _ _ _ _ _ (c .before .before .before .before .before .before .before .before .before .loop .inv) (c .before .before .before .before .before .before .before .before .loop-test .taken) _ _ (c .before .before .before .before .before .before .taken .ensures) (c .before .before .before .before .before .entry-len .ensures) _ _ (c .before .before .before .take .ensures .0) (c .before .before .before .take .ensures .1)
 
--- src/lone.rt:29:5
 loop-less : tie.Need-loop-less Inv-loop μ-loop
 loop-less c = lone-less _ _ _ _ _ _ (c .before .before .before .before .before .before .before .before .before .before .loop .inv) (c .before .before .before .before .before .before .before .before .before .loop-test .taken) _ _ (c .before .before .before .before .before .before .before .taken .ensures) (c .before .before .before .before .before .before .entry-len .ensures) _ _ (c .before .before .before .before .take .ensures .0) (c .before .before .before .before .take .ensures .1)
 
--- src/lone.rt:29:5
 loop-again : tie.Need-loop-again Inv-loop μ-loop
 loop-again c = lone-again _ _ _ _ _ _ (c .before .before .before .before .before .before .before .before .before .before .loop .inv) (c .before .before .before .before .before .before .before .before .before .loop-test .taken) _ _ (c .before .before .before .before .before .before .before .taken .ensures) (c .before .before .before .before .before .before .entry-len .ensures) _ _ (c .before .before .before .before .take .ensures .0) (c .before .before .before .before .take .ensures .1) _ (c .next-name2 .ensures)
 
--- src/lone.rt:23:1
 same-length : tie.Need-same-length Inv-loop μ-loop
 same-length c = c .before .loop .inv .long
 
--- src/lone.rt:23:1
 returns : tie.Need-returns Inv-loop μ-loop
 returns c = let st = c .before .before .before .before .before in lone-end (st .args .s .now) (st .args .start) (st .args .to) _ _ _ (c .before .loop .inv) (c .loop-test .left)
 

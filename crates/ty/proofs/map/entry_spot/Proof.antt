@@ -21,23 +21,18 @@ Inv-loop part len name last q₀ q = (fs : Fields) (n : Bytes) → MapFront part
 abbrev μ-loop : tie.MeasureT-loop
 μ-loop part len name last q₀ q = len - q
 
--- src/map.rt:23:16
 sub-last : tie.Need-sub-last Inv-loop μ-loop
 sub-last c = let st = c .before .before in let w = st .pre in omega (arith, two-at (st .args .part .now) 0 (st .args .len) (tMap (w .fields)) (w .front .at))
 
--- src/map.rt:25:5
 loop-holds : tie.Need-loop-holds Inv-loop μ-loop
 loop-holds c fs n f = looking fs n
 
--- src/map.rt:26:13
 field-end-requires : tie.Need-field-end-requires Inv-loop μ-loop
 field-end-requires c κs = let w = c .before .before .before .before .pre in omega (arith, w .front .at .inside, c .loop-test .taken)
 
--- src/map.rt:27:32
 add-type-end : tie.Need-add-type-end Inv-loop μ-loop
 add-type-end c = omega (arith, c .field-end .ensures .within)
 
--- src/map.rt:27:13
 type-end-requires : tie.Need-type-end-requires Inv-loop μ-loop
 type-end-requires c κs =
     let st = c .before .before .before .before .before in
@@ -46,27 +41,21 @@ type-end-requires c κs =
     let k = look (a .part .now) (a .name .now) (a .len) (w .fields) (w .name) (c .before .before .loop .q) (w .front) (c .before .before .loop .inv (w .fields) (w .name) (w .front)) (c .before .loop-test .taken) in
     met-from (a .part .now) (a .name .now) (a .len) (w .fields) (w .name) (c .before .before .loop .q) (w .front) k _ (c .field-end .ensures)
 
--- src/map.rt:28:29
 sub-compare : tie.Need-sub-compare Inv-loop μ-loop
 sub-compare c = c .before .field-end .ensures .from
 
--- src/map.rt:28:29
 part-compare-start : tie.Need-part-compare-start Inv-loop μ-loop
 part-compare-start c = search needs
 
--- src/map.rt:28:29
 part-compare-end : tie.Need-part-compare-end Inv-loop μ-loop
 part-compare-end c = search needs
 
--- src/map.rt:28:15
 compare-requires : tie.Need-compare-requires Inv-loop μ-loop
 compare-requires c κs = tt
 
--- src/map.rt:30:17
 enum-told : tie.Need-enum-told Inv-loop μ-loop
 enum-told c = search needs
 
--- src/map.rt:25:5
 loop-less : tie.Need-loop-less Inv-loop μ-loop
 loop-less c =
     let st = c .before .before .before .before .before .before .before .before .before .before in
@@ -76,7 +65,6 @@ loop-less c =
     let p = met-past (a .part .now) (a .name .now) (a .len) (w .fields) (w .name) (c .before .before .before .before .before .before .before .loop .q) (w .front) k _ (c .before .before .before .before .before .field-end .ensures) _ (c .before .before .before .before .type-end .ensures) in
     omega (arith, p .0, p .1)
 
--- src/map.rt:25:5
 loop-again : tie.Need-loop-again Inv-loop μ-loop
 loop-again c fs n f =
     let st = c .before .before .before .before .before .before .before .before .before .before in
@@ -84,15 +72,12 @@ loop-again c fs n f =
     let k = look (a .part .now) (a .name .now) (a .len) fs n (c .before .before .before .before .before .before .before .loop .q) f (c .before .before .before .before .before .before .before .loop .inv fs n f) (c .before .before .before .before .before .before .loop-test .taken) in
     goes-on (a .part .now) (a .name .now) (a .len) fs n (c .before .before .before .before .before .before .before .loop .q) f k _ (c .before .before .before .before .before .field-end .ensures) _ (c .before .before .before .before .type-end .ensures) _ (c .before .before .compare .ensures) (c .enum-told .given .1)
 
--- src/map.rt:34:28
 enum-told-2 : tie.Need-enum-told-2 Inv-loop μ-loop
 enum-told-2 c = search needs
 
--- src/map.rt:34:28
 add-t14 : tie.Need-add-t14 Inv-loop μ-loop
 add-t14 c = omega (arith, c .before .before .before .before .before .field-end .ensures .within)
 
--- src/map.rt:33:17
 returns : tie.Need-returns Inv-loop μ-loop
 returns c fs n f =
     let st = c .before .before .before .before .before .before .before .before .before .before in
@@ -100,11 +85,9 @@ returns c fs n f =
     let k = look (a .part .now) (a .name .now) (a .len) fs n (c .before .before .before .before .before .before .before .loop .q) f (c .before .before .before .before .before .before .before .loop .inv fs n f) (c .before .before .before .before .before .before .loop-test .taken) in
     goes-old (a .part .now) (a .name .now) (a .len) fs n (c .before .before .before .before .before .before .before .loop .q) f k _ (c .before .before .before .before .before .field-end .ensures) _ (c .before .before .before .before .type-end .ensures) _ (c .before .before .compare .ensures) (c .enum-told2 .given .1)
 
--- src/map.rt:39:17
 enum-told-3 : tie.Need-enum-told-3 Inv-loop μ-loop
 enum-told-3 c = search needs
 
--- src/map.rt:39:17
 returns-2 : tie.Need-returns-2 Inv-loop μ-loop
 returns-2 c fs n f =
     let st = c .before .before .before .before .before .before .before .before .before .before in
@@ -112,7 +95,6 @@ returns-2 c fs n f =
     let k = look (a .part .now) (a .name .now) (a .len) fs n (c .before .before .before .before .before .before .before .loop .q) f (c .before .before .before .before .before .before .before .loop .inv fs n f) (c .before .before .before .before .before .before .loop-test .taken) in
     goes-new (a .part .now) (a .name .now) (a .len) fs n (c .before .before .before .before .before .before .before .loop .q) f k _ (c .before .before .before .before .before .field-end .ensures) _ (c .before .before .before .before .type-end .ensures) _ (c .before .before .compare .ensures) (c .enum-told3 .given .1)
 
--- src/map.rt:19:1
 returns-3 : tie.Need-returns-3 Inv-loop μ-loop
 returns-3 c fs n f = let a = c .before .before .before .before .args in at-last (a .part .now) (a .name .now) (a .len) fs n (c .before .loop .q) f (c .before .loop .inv fs n f) (c .loop-test .left)
 

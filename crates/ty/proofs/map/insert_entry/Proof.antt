@@ -14,51 +14,39 @@ use Rattle.text.proofs.append.Reads as append-reads
 use Rattle.text.proofs.rotate.Reads as rotate-reads
 use Rattle.text.proofs.slide_up.Reads as slide-up-reads
 
--- src/map.rt:51:13
 add-k : tie.Need-add-k
 add-k c = search needs
 
--- src/map.rt:52:8
 add-if1 : tie.Need-add-if1
 add-if1 c = search needs
 
--- src/map.rt:53:9
 returns : tie.Need-returns
 returns c = let st = c .before .before .before in let a = st .args in fronted-over (a .part .now) _ _ _ (inserted-long (a .part .now) (a .name .now) (a .len) (a .end) (a .p) (st .pre .0) (st .pre .1) (st .pre .2)) (c .if1 .taken) refl
 
--- src/map.rt:55:29
 add-slide-up : tie.Need-add-slide-up
 add-slide-up c = search needs
 
--- src/map.rt:55:36
 sub-slide-up : tie.Need-sub-slide-up
 sub-slide-up c = search needs
 
--- src/map.rt:55:5
 slide-up-requires : tie.Need-slide-up-requires
 slide-up-requires c κs = search needs
 
--- src/map.rt:56:9
 append-requires : tie.Need-append-requires
 append-requires c κs = search needs
 
--- src/map.rt:57:5
 slice-write-part : tie.Need-slice-write-part
 slice-write-part c = search needs
 
--- src/map.rt:58:24
 add-rotate : tie.Need-add-rotate
 add-rotate c = search needs
 
--- src/map.rt:58:31
 add-rotate-2 : tie.Need-add-rotate-2
 add-rotate-2 c = search needs
 
--- src/map.rt:58:40
 add-rotate-3 : tie.Need-add-rotate-3
 add-rotate-3 c = search needs
 
--- src/map.rt:58:5
 rotate-requires : tie.Need-rotate-requires
 rotate-requires c κs =
     let st = c .before .before .before .before .before .before .before .before .before .before .before .before in
@@ -66,18 +54,15 @@ rotate-requires c κs =
     length-set (c .before .before .before .append .last .0) (c .before .before .before .append .result) 44 ∙ ap length (c .before .before .before .append .ensures .1) ∙ simp length-sets (ap length (c .before .before .before .before .before .before .before .slide-up .ensures) ∙ simp length-sets) in
     (omega (arith, st .pre .0), omega (arith, st .pre .1), omega (arith, l, st .pre .3, c .before .before .before .before .before .before .before .before .before .if1 .left))
 
--- src/map.rt:59:16
 add-t13 : tie.Need-add-t13
 add-t13 c = search needs
 
--- src/map.rt:47:1
 same-length : tie.Need-same-length
 same-length c =
     let st = c .before .before .before .before .before .before .before .before .before .before .before .before .before .before .before in
     let a = st .args in
     inserted-length (a .part .now) (a .name .now) (a .len) (a .end) (a .p) (st .pre .0) (st .pre .1) (st .pre .2) _ _ _ _ (omega (arith, st .pre .3, c .before .before .before .before .before .before .before .before .before .before .before .before .if1 .left)) (c .before .before .before .before .before .before .before .before .before .before .slide-up .ensures) (c .before .before .before .before .before .before .append .ensures .1) (c .before .before .before .before .before .before .append .ensures .0) (c .before .before .rotate .ensures)
 
--- src/map.rt:47:1
 returns-2 : tie.Need-returns-2
 returns-2 c =
     let st = c .before .before .before .before .before .before .before .before .before .before .before .before .before .before .before in

@@ -11,15 +11,12 @@ use Rattle.ty.proofs.map.insert_entry.Reads as insert-entry-reads
 use Rattle.ty.proofs.map.replace_value.Reads as replace-value-reads
 use Rattle.ty.proofs.map.tested.Reads as tested-reads
 
--- src/map.rt:97:11
 entry-spot-requires : tie.Need-entry-spot-requires
 entry-spot-requires c κs = search needs
 
--- src/map.rt:98:19
 enum-known-p : tie.Need-enum-known-p
 enum-known-p c = search needs
 
--- src/map.rt:99:17
 insert-entry-requires : tie.Need-insert-entry-requires
 insert-entry-requires c κs =
     let st = c .before .before .before .before .before .before .before .before in
@@ -31,7 +28,6 @@ insert-entry-requires c κs =
     let g = rw (c .before .before .p .given .1) at (c .before .before .before .before .entry-spot .ensures (w .fields) (w .name) (w .front)) in
     (new-in s x (a .len) (w .fields) (w .name) (w .front) _ g, v .at .ordered, v .at .inside, st .pre .room)
 
--- src/map.rt:100:13
 tested-requires : tie.Need-tested-requires
 tested-requires c κs =
     let st = c .before .before .before .before .before .before .before .before .before .before .before .before in
@@ -43,11 +39,9 @@ tested-requires c κs =
     let g = rw (c .before .before .before .before .before .before .p .given .1) at (c .before .before .before .before .before .before .before .before .entry-spot .ensures (w .fields) (w .name) (w .front)) in
     fronted-some s _ _ (tMap (setField (w .name) (v .ty) (w .fields))) _ (new-line s x (a .len) (w .fields) (w .name) (w .front) (a .end) _ (v .ty) (v .at) g) (c .before .before .before .insert-entry .ensures)
 
--- src/map.rt:102:21
 enum-known-value : tie.Need-enum-known-value
 enum-known-value c = search needs
 
--- src/map.rt:103:17
 replace-value-requires : tie.Need-replace-value-requires
 replace-value-requires c κs =
     let st = c .before .before .before .before .before .before .before .before in
@@ -60,7 +54,6 @@ replace-value-requires c κs =
     let i = old-in s x (a .len) (w .fields) (w .name) (w .front) _ _ g in
     (i .0, i .1, v .at .ordered, v .at .inside)
 
--- src/map.rt:104:13
 tested-requires-2 : tie.Need-tested-requires-2
 tested-requires-2 c κs =
     let st = c .before .before .before .before .before .before .before .before .before .before .before .before in
@@ -72,11 +65,9 @@ tested-requires-2 c κs =
     let g = rw (c .before .before .before .before .before .before .value .given .1) at (c .before .before .before .before .before .before .before .before .entry-spot .ensures (w .fields) (w .name) (w .front)) in
     fronted-some s _ _ (tMap (setField (w .name) (v .ty) (w .fields))) _ (old-line s x (a .len) (w .fields) (w .name) (w .front) (a .end) _ _ (v .ty) (v .at) g) (c .before .before .before .replace-value .ensures)
 
--- src/map.rt:93:1
 same-length : tie.Need-same-length
 same-length c = search needs
 
--- src/map.rt:93:1
 returns : tie.Need-returns
 returns c fs n t f v =
     let a = c .before .before .before .before .before .before .before .before .before .before .before .before .before .args in
@@ -85,11 +76,9 @@ returns c fs n t f v =
     let g = rw (c .before .before .before .before .before .before .before .p .given .1) at (c .before .before .before .before .before .before .before .before .before .entry-spot .ensures fs n f) in
     fronted-made s _ _ (tMap (setField n t fs)) _ (new-line s x (a .len) fs n f (a .end) _ t v g) (c .before .before .before .before .insert-entry .ensures) _ (c .tested .ensures)
 
--- src/map.rt:93:1
 same-length-2 : tie.Need-same-length-2
 same-length-2 c = search needs
 
--- src/map.rt:93:1
 returns-2 : tie.Need-returns-2
 returns-2 c fs n t f v =
     let a = c .before .before .before .before .before .before .before .before .before .before .before .before .before .args in

@@ -13,27 +13,21 @@ use Rattle.ty.proofs.map.replace_value.Lts as lts
 use Rattle.text.proofs.copy_in.Reads as copy-in-reads
 use Rattle.text.proofs.rotate.Reads as rotate-reads
 
--- src/map.rt:67:20
 sub-n : tie.Need-sub-n
 sub-n c = search needs
 
--- src/map.rt:67:13
 sub-n-2 : tie.Need-sub-n-2
 sub-n-2 c = search needs
 
--- src/map.rt:69:9
 returns : tie.Need-returns
 returns c = let st = c .before .before in let a = st .args in fronted-over (a .part .now) _ _ _ (replaced-long (a .part .now) (a .len) (a .end) (a .v) (a .e) (st .pre .0) (st .pre .1) (st .pre .2) (st .pre .3)) (c .if1 .taken) refl
 
--- src/map.rt:71:5
 rotate-requires : tie.Need-rotate-requires
 rotate-requires c κs = search needs
 
--- src/map.rt:72:31
 sub-copy-in : tie.Need-sub-copy-in
 sub-copy-in c = search needs
 
--- src/map.rt:72:5
 copy-in-requires : tie.Need-copy-in-requires
 copy-in-requires c κs =
     let st = c .before .before .before .before .before .before .before in
@@ -41,11 +35,9 @@ copy-in-requires c κs =
     let l = ap length (c .before .before .before .rotate .ensures) ∙ length-rotated (a .e) (a .len) (a .end) (a .part .now) (st .pre .1) (st .pre .2) (st .pre .3) in
     (omega (arith, l, st .pre), omega (arith, l, st .pre), inl (st .pre .0))
 
--- src/map.rt:63:1
 same-length : tie.Need-same-length
 same-length c = search needs
 
--- src/map.rt:63:1
 returns-2 : tie.Need-returns-2
 returns-2 c =
     let st = c .before .before .before .before .before .before .before .before .before .before in

@@ -9,31 +9,24 @@ use Rattle.ty.proofs.map.tested.Reads as reads
 use Rattle.ty.proofs.map.tested.Lts as lts
 use Rattle.ty.proofs.end.fits.Reads as fits-reads
 
--- src/map.rt:82:20
 enum-known-made : tie.Need-enum-known-made
 enum-known-made c = search needs
 
--- src/map.rt:83:21
 slice-aggregate-fits : tie.Need-slice-aggregate-fits
 slice-aggregate-fits c = let st = c .before .before .before .before .before in let g = c .before .before .made .given in sym (length-take-le (g .0 .0) (st .args .part .now) ((rw (g .1) at (st .pre)) .at .inside))
 
--- src/map.rt:83:16
 fits-requires : tie.Need-fits-requires
 fits-requires c κs = let st = c .before .before .before .before .before in let g = c .before .before .made .given in front-from (st .args .part .now) (g .0 .0) (rw (g .1) at (st .pre))
 
--- src/map.rt:84:17
 returns : tie.Need-returns
 returns c = let g = c .before .before .before .before .made .given in rw (g .1) (λ t h. tested-fits (g .0 .0) t _ (c .before .fits2 .ensures t (h .is)) (c .if1 .taken))
 
--- src/map.rt:88:28
 enum-told : tie.Need-enum-told
 enum-told c = search needs
 
--- src/map.rt:77:1
 returns-2 : tie.Need-returns-2
 returns-2 c = let g = c .before .before .before .before .made .given in rw (g .1) (λ t h. tested-large (g .0 .0) t _ (c .before .fits2 .ensures t (h .is)) (c .if1 .left))
 
--- src/map.rt:77:1
 returns-3 : tie.Need-returns-3
 returns-3 c = rw (c .enum-told .given .1) refl
 

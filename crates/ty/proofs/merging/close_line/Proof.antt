@@ -9,32 +9,25 @@ use Rattle.ty.proofs.merging.close_line.Reads as reads
 use Rattle.ty.proofs.merging.close_line.Lts as lts
 use Rattle.text.proofs.append.Reads as append-reads
 
--- src/merging.rt:117:9
 returns : tie.Need-returns
 unfolding closedOf closedText
 returns c = rw (eq-eqb (c .before .before .args .n) 0 (c .if1 .taken)) (refl, refl)
 
--- src/merging.rt:119:21
 add-append : tie.Need-add-append
 add-append c = search needs
 
--- src/merging.rt:119:29
 slice-aggregate-append : tie.Need-slice-aggregate-append
 slice-aggregate-append c = search needs
 
--- src/merging.rt:119:5
 append-requires : tie.Need-append-requires
 append-requires c κs = search needs
 
--- src/merging.rt:120:16
 add-t6 : tie.Need-add-t6
 add-t6 c = search needs
 
--- src/merging.rt:112:1
 same-length : tie.Need-same-length
 same-length c = search needs
 
--- src/merging.rt:112:1
 returns-2 : tie.Need-returns-2
 unfolding closedOf closedText
 returns-2 c = rw (ne-eqb (c .before .before .before .before .before .before .before .args .n) 0 (c .before .before .before .before .before .if1 .left)) (refl, c .before .before .append .ensures .1)

@@ -11,15 +11,12 @@ use Rattle.ty.proofs.merging.keep.Lts as lts
 use Rattle.text.proofs.copy_in.Reads as copy-in-reads
 use Rattle.ty.proofs.merging.kept.Reads as kept-reads
 
--- src/merging.rt:68:9
 kept-requires : tie.Need-kept-requires
 kept-requires c κs = search needs
 
--- src/merging.rt:70:32
 add-copy-in : tie.Need-add-copy-in
 add-copy-in c = search needs
 
--- src/merging.rt:70:9
 copy-in-requires : tie.Need-copy-in-requires
 copy-in-requires c κs =
     let st = c .before .before .before .before in
@@ -27,18 +24,15 @@ copy-in-requires c κs =
     let k = kept-room (a .n) (a .k) _ (c .before .before .kept .ensures) (c .before .if1 .taken) in
     (omega (arith, st .pre .0, st .pre .1), omega (arith, st .pre .1, k), inr (omega (arith, st .pre .0)))
 
--- src/merging.rt:64:1
 same-length : tie.Need-same-length
 same-length c = search needs
 
--- src/merging.rt:64:1
 returns : tie.Need-returns
 returns c =
     let a = c .before .before .before .before .before .before .before .args in
     let e = c .before .before .before .before .before .kept .ensures in
     (e, c .before .before .copy-in .ensures ∙ sym (kept-text (a .s .now) (a .from) (a .k) (a .to) (a .n) _ e (c .before .before .before .before .if1 .taken)))
 
--- src/merging.rt:64:1
 returns-2 : tie.Need-returns-2
 returns-2 c =
     let a = c .before .before .before .args in

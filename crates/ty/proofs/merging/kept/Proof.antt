@@ -8,29 +8,23 @@ use Rattle.ty.proofs.merging.kept.Tie as tie
 use Rattle.ty.proofs.merging.kept.Reads as reads
 use Rattle.ty.proofs.merging.kept.Lts as lts
 
--- src/merging.rt:55:9
 returns : tie.Need-returns
 unfolding keptOf
 returns c = rw (eq-eqb (c .before .args .n) 0 (c .if1 .taken))
 
--- src/merging.rt:57:8
 add-if2 : tie.Need-add-if2
 add-if2 c = search needs
 
--- src/merging.rt:57:8
 add-if2-2 : tie.Need-add-if2-2
 add-if2-2 c = search needs
 
--- src/merging.rt:58:9
 returns-2 : tie.Need-returns-2
 unfolding keptOf
 returns-2 c = let a = c .before .before .args in rw (ne-eqb (a .n) 0 (c .before .if1 .left), lt-ltb 1024 (a .n + a .k + 2) (c .if2 .taken))
 
--- src/merging.rt:60:5
 add-result : tie.Need-add-result
 add-result c = search needs
 
--- src/merging.rt:50:1
 returns-3 : tie.Need-returns-3
 unfolding keptOf
 returns-3 c = let a = c .before .before .args in rw (ne-eqb (a .n) 0 (c .before .if1 .left), le-ltb 1024 (a .n + a .k + 2) (c .if2 .left))

@@ -10,19 +10,15 @@ use Rattle.ty.proofs.merging.name_len.Reads as reads
 use Rattle.ty.proofs.merging.name_len.Lts as lts
 use Rattle.text.proofs.field_end.Reads as field-end-reads
 
--- src/merging.rt:45:9
 field-end-requires : tie.Need-field-end-requires
 field-end-requires c κs = let st = c .before in le-of-lt (head-in (st .args .s .now) (st .args .at) (some (st .pre .name)) (st .pre .at))
 
--- src/merging.rt:46:5
 sub-result : tie.Need-sub-result
 sub-result c = search needs
 
--- src/merging.rt:46:5
 add-result : tie.Need-add-result
 add-result c = search needs
 
--- src/merging.rt:41:1
 returns : tie.Need-returns
 returns c n h = let st = c .before .before in let e = name-ends (st .args .s .now) (st .args .at) _ n h (c .field-end .ensures) in omega arith
 

@@ -9,67 +9,52 @@ use Rattle.ty.proofs.merging.next_name.Lts as lts
 use Rattle.text.proofs.compare_in.Reads as compare-in-reads
 use Rattle.text.proofs.field_end.Reads as field-end-reads
 
--- src/merging.rt:22:8
 shared-slice-read-if1 : tie.Need-shared-slice-read-if1
 shared-slice-read-if1 c = let st = c .before .before in head-in (st .args .s .now) (st .args .p) (st .pre .0 .head) (st .pre .0 .at)
 
--- src/merging.rt:23:12
 shared-slice-read-if2 : tie.Need-shared-slice-read-if2
 shared-slice-read-if2 c = let st = c .before .before .before .before in head-in (st .args .s .now) (st .args .q) (st .pre .1 .head) (st .pre .1 .at)
 
--- src/merging.rt:24:13
 returns : tie.Need-returns
 returns c o u h k = let st = c .before .before .before .before .before in next-end (st .args .s .now) (st .args .p) (st .args .q) o u h k (c .before .before .if1 .taken) (c .if2 .taken)
 
--- src/merging.rt:26:9
 returns-2 : tie.Need-returns-2
 returns-2 c o u h k = let st = c .before .before .before .before .before in next-second (st .args .s .now) (st .args .p) (st .args .q) o u h k (c .before .before .if1 .taken) (c .if2 .left)
 
--- src/merging.rt:28:8
 shared-slice-read-if3 : tie.Need-shared-slice-read-if3
 shared-slice-read-if3 c = let st = c .before .before .before .before in head-in (st .args .s .now) (st .args .q) (st .pre .1 .head) (st .pre .1 .at)
 
--- src/merging.rt:29:9
 returns-3 : tie.Need-returns-3
 returns-3 c o u h k = let st = c .before .before .before .before .before in next-first (st .args .s .now) (st .args .p) (st .args .q) o u h k (c .before .before .if1 .left) (c .if3 .taken)
 
--- src/merging.rt:31:9
 field-end-requires : tie.Need-field-end-requires
 field-end-requires c κs = let st = c .before .before .before .before .before in le-of-lt (head-in (st .args .s .now) (st .args .p) (st .pre .0 .head) (st .pre .0 .at))
 
--- src/merging.rt:32:9
 field-end-requires-2 : tie.Need-field-end-requires-2
 field-end-requires-2 c κs = let st = c .before .before .before .before .before .before in le-of-lt (head-in (st .args .s .now) (st .args .q) (st .pre .1 .head) (st .pre .1 .at))
 
--- src/merging.rt:33:11
 compare-in-requires : tie.Need-compare-in-requires
 compare-in-requires c κs = search needs
 
--- src/merging.rt:34:24
 enum-told : tie.Need-enum-told
 enum-told c = search needs
 
--- src/merging.rt:35:24
 enum-told-2 : tie.Need-enum-told-2
 enum-told-2 c = search needs
 
--- src/merging.rt:36:24
 enum-told-3 : tie.Need-enum-told-3
 enum-told-3 c = search needs
 
--- src/merging.rt:18:1
 returns-4 : tie.Need-returns-4
 returns-4 c o u h k =
     let st = c .before .before .before .before .before .before .before .before .before .before in
     next-compared (st .args .s .now) (st .args .p) (st .args .q) _ _ o u _ _ h k (c .before .before .before .before .before .before .before .if1 .left) (c .before .before .before .before .before .if3 .left) (c .before .before .before .before .field-end .ensures) (c .before .before .before .field-end2 .ensures) (c .before .before .compare-in .ensures) (c .enum-told .given .1)
 
--- src/merging.rt:18:1
 returns-5 : tie.Need-returns-5
 returns-5 c o u h k =
     let st = c .before .before .before .before .before .before .before .before .before .before in
     next-compared (st .args .s .now) (st .args .p) (st .args .q) _ _ o u _ _ h k (c .before .before .before .before .before .before .before .if1 .left) (c .before .before .before .before .before .if3 .left) (c .before .before .before .before .field-end .ensures) (c .before .before .before .field-end2 .ensures) (c .before .before .compare-in .ensures) (c .enum-told2 .given .1)
 
--- src/merging.rt:18:1
 returns-6 : tie.Need-returns-6
 returns-6 c o u h k =
     let st = c .before .before .before .before .before .before .before .before .before .before in

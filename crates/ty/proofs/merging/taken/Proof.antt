@@ -6,12 +6,10 @@ use Rattle.ty.proofs.merging.taken.Tie as tie
 use Rattle.ty.proofs.merging.taken.Reads as reads
 use Rattle.ty.proofs.merging.taken.Lts as lts
 
--- src/merging.rt:80:9
 returns : tie.Need-returns
 unfolding takenAt
 returns c = rw (eq-eqb (c .before .args .next) 1 (c .if1 .taken))
 
--- src/merging.rt:76:1
 returns-2 : tie.Need-returns-2
 unfolding takenAt
 returns-2 c = rw (ne-eqb (c .before .args .next) 1 (c .if1 .left))

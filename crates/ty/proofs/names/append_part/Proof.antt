@@ -7,27 +7,21 @@ use Rattle.ty.proofs.names.append_part.Reads as reads
 use Rattle.ty.proofs.names.append_part.Lts as lts
 use Rattle.text.proofs.append.Reads as append-reads
 
--- src/names.rt:25:29
 sub-append : tie.Need-sub-append
 sub-append c = search needs
 
--- src/names.rt:25:29
 part-append-start : tie.Need-part-append-start
 part-append-start c = search needs
 
--- src/names.rt:25:29
 part-append-end : tie.Need-part-append-end
 part-append-end c = search needs
 
--- src/names.rt:25:5
 append-requires : tie.Need-append-requires
 append-requires c κs = let a = c .before .before .before .before .args in rw (part-slice (a .a) (a .e) (a .t .now)) (c .before .before .before .before .pre .2)
 
--- src/names.rt:21:1
 same-length : tie.Need-same-length
 same-length c = search needs
 
--- src/names.rt:21:1
 returns : tie.Need-returns
 returns c = let a = c .before .before .before .before .before .before .before .args in rw (part-slice (a .a) (a .e) (a .t .now)) at (c .before .before .append .ensures)
 

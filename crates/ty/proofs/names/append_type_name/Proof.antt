@@ -17,27 +17,21 @@ use Rattle.ty.proofs.names.append_type_name.Lts as lts
 use Rattle.ty.proofs.names.append_part.Reads as append-part-reads
 use Rattle.ty.proofs.names.name_end.Reads as name-end-reads
 
--- src/names.rt:34:14
 sub-i : tie.Need-sub-i
 sub-i c = let k = c .before .before .pre .1 in let p = name-part (k .ty) in let e = k .is in omega (arith, p .low, e)
 
--- src/names.rt:34:13
 cast-i : tie.Need-cast-i
 cast-i c = search needs
 
--- src/names.rt:35:9
 name-end-requires : tie.Need-name-end-requires
 name-end-requires c κs = let k = c .before .before .pre .1 in let p = name-part (k .ty) in let e = k .is in omega (arith, p .high, e)
 
--- src/names.rt:36:22
 add-name-end : tie.Need-add-name-end
 add-name-end c = search needs
 
--- src/names.rt:36:9
 name-end-requires-2 : tie.Need-name-end-requires-2
 name-end-requires-2 c κs = let k = c .before .before .before .pre .1 in let p = name-part (k .ty) in let e = k .is in omega (arith, p .high, e)
 
--- src/names.rt:37:5
 append-part-requires : tie.Need-append-part-requires
 unfolding text
 append-part-requires c κs =
@@ -46,11 +40,9 @@ append-part-requires c κs =
     let n = named (k .ty) (st .args .k) _ _ (k .is) (c .before .before .before .name-end .ensures) (c .before .before .name-end2 .ensures) in
     (n .ordered, n .inside, omega (arith, ap length (n .is), n .short, st .pre .0))
 
--- src/names.rt:29:1
 same-length : tie.Need-same-length
 same-length c = search needs
 
--- src/names.rt:29:1
 returns : tie.Need-returns
 unfolding text
 returns c t e =

@@ -7,15 +7,12 @@ use Rattle.ty.proofs.names.name_end.Tie as tie
 use Rattle.ty.proofs.names.name_end.Reads as reads
 use Rattle.ty.proofs.names.name_end.Lts as lts
 
--- src/names.rt:15:5
 mul-result : tie.Need-mul-result
 mul-result c = search needs
 
--- src/names.rt:15:5
 array-read-result : tie.Need-array-read-result
 array-read-result c = search needs
 
--- src/names.rt:11:1
 returns : tie.Need-returns
 unfolding nameEnd
 returns c = refl

@@ -9,27 +9,21 @@ use Rattle.ty.proofs.kept.Reads as kept-reads
 use Rattle.unify.proofs.maps.keep_lone.Reads as keep-lone-reads
 use Rattle.unify.proofs.maps.next_entry.Reads as next-entry-reads
 
--- src/maps.rt:89:27
 sub-kept : tie.Need-sub-kept
 sub-kept c = let st = c .before .before in let a = st .args in let h = st .pre .0 in let (e, i, j, k, l, r) = value-fits (a .work .now) (a .mark) (a .f) (st .pre .1) (a .end) (h .pair) (h .answered) in i
 
--- src/maps.rt:89:9
 kept-requires : tie.Need-kept-requires
 kept-requires c κs = let st = c .before .before in let a = st .args in let h = st .pre .0 in let (e, i, j, k, l, r) = value-fits (a .work .now) (a .mark) (a .f) (st .pre .1) (a .end) (h .pair) (h .answered) in omega (arith, st .fits .end)
 
--- src/maps.rt:95:9
 keep-lone-requires : tie.Need-keep-lone-requires
 keep-lone-requires c κs = let st = c .before .before .before .before in let a = st .args in value-some (a .work .now) (a .mark) (a .f) (st .pre .1) (a .end) _ (c .before .kept .ensures) (st .pre .0)
 
--- src/maps.rt:96:5
 next-entry-requires : tie.Need-next-entry-requires
 next-entry-requires c κs = let st = c .before .before .before .before .before .before .before .before in let a = st .args in let m = value-some (a .work .now) (a .mark) (a .f) (st .pre .1) (a .end) _ (c .before .before .before .before .before .kept .ensures) (st .pre .0) in (record { run = m .run; met = c .before .before .before .keep-lone .ensures .met (m .run) (m .merge) }, st .pre .1)
 
--- src/maps.rt:85:1
 same-length : tie.Need-same-length
 same-length c = search needs
 
--- src/maps.rt:85:1
 returns : tie.Need-returns
 returns c = let st = c .before .before .before .before .before .before .before .before .before .before .before in let a = st .args in value-stepped (a .work .now) (a .mark) (a .f) (st .pre .1) (a .end) _ (c .before .before .before .before .before .before .before .before .kept .ensures) _ _ _ _ (c .before .before .before .before .before .before .keep-lone .ensures) (c .before .before .next-entry .ensures)
 

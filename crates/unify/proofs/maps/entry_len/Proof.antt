@@ -8,23 +8,18 @@ use Rattle.unify.proofs.maps.entry_len.Lts as lts
 use Rattle.text.proofs.field_end.Reads as field-end-reads
 use Rattle.ty.proofs.type_end.Reads as type-end-reads
 
--- src/maps.rt:21:21
 field-end-requires : tie.Need-field-end-requires
 field-end-requires c κs = let h = c .before .pre in omega (arith, entry-room (c .before .args .s .now) (c .before .args .at) (h .name) (h .ty) (h .rest) (h .is))
 
--- src/maps.rt:21:21
 add-type-end : tie.Need-add-type-end
 add-type-end c = search needs
 
--- src/maps.rt:21:5
 type-end-requires : tie.Need-type-end-requires
 type-end-requires c κs = entry-from _ _ _ (c .field-end .ensures) (c .before .before .pre)
 
--- src/maps.rt:21:5
 sub-result : tie.Need-sub-result
 sub-result c = entry-long _ _ _ _ (c .before .field-end .ensures) (c .type-end .ensures) (c .before .before .before .pre) .0
 
--- src/maps.rt:17:1
 returns : tie.Need-returns
 returns c = entry-long _ _ _ _ (c .before .field-end .ensures) (c .type-end .ensures) (c .before .before .before .pre) .1
 

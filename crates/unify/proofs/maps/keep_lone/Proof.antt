@@ -15,43 +15,33 @@ Inv-loop s₀ to m₀ next₀ s m next = LoneInv s₀ m₀ to s m next
 abbrev μ-loop : tie.MeasureT-loop
 μ-loop s₀ to m₀ next₀ s m next = (to - m .p) + (to - m .q)
 
--- src/maps.rt:30:9
 next-name-requires : tie.Need-next-name-requires Inv-loop μ-loop
 next-name-requires c κs = some-heads (c .before .before .pre)
 
--- src/maps.rt:31:5
 loop-holds : tie.Need-loop-holds Inv-loop μ-loop
 loop-holds c = start-inv (c .before .before .before .pre) (c .next-name .ensures)
 
--- src/maps.rt:32:30
 taken-requires : tie.Need-taken-requires Inv-loop μ-loop
 taken-requires c κs = tt
 
--- src/maps.rt:32:13
 entry-len-requires : tie.Need-entry-len-requires Inv-loop μ-loop
 entry-len-requires c κs = turn-entry _ _ _ _ _ _ (c .before .before .before .loop .inv) (c .before .before .loop-test .taken) _ (c .taken .ensures)
 
--- src/maps.rt:33:9
 take-requires : tie.Need-take-requires Inv-loop μ-loop
 take-requires c κs = turn-taking _ _ _ _ _ _ (c .before .before .before .before .before .loop .inv) (c .before .before .before .before .loop-test .taken) _ _ (c .before .before .taken .ensures) (c .before .entry-len .ensures)
 
--- src/maps.rt:34:9
 next-name-requires-2 : tie.Need-next-name-requires-2 Inv-loop μ-loop
 next-name-requires-2 c κs = turn-heads _ _ _ _ _ _ (c .before .before .before .before .before .before .before .before .before .loop .inv) (c .before .before .before .before .before .before .before .before .loop-test .taken) _ _ (c .before .before .before .before .before .before .taken .ensures) (c .before .before .before .before .before .entry-len .ensures) _ _ (c .before .before .before .take .ensures .0) (c .before .before .before .take .ensures .1)
 
--- src/maps.rt:31:5
 loop-less : tie.Need-loop-less Inv-loop μ-loop
 loop-less c = turn-less _ _ _ _ _ _ (c .before .before .before .before .before .before .before .before .before .before .loop .inv) (c .before .before .before .before .before .before .before .before .before .loop-test .taken) _ _ (c .before .before .before .before .before .before .before .taken .ensures) (c .before .before .before .before .before .before .entry-len .ensures) _ _ (c .before .before .before .before .take .ensures .0) (c .before .before .before .before .take .ensures .1)
 
--- src/maps.rt:31:5
 loop-again : tie.Need-loop-again Inv-loop μ-loop
 loop-again c = turn-again _ _ _ _ _ _ (c .before .before .before .before .before .before .before .before .before .before .loop .inv) (c .before .before .before .before .before .before .before .before .before .loop-test .taken) _ _ (c .before .before .before .before .before .before .before .taken .ensures) (c .before .before .before .before .before .before .entry-len .ensures) _ _ (c .before .before .before .before .take .ensures .0) (c .before .before .before .before .take .ensures .1) _ (c .next-name2 .ensures)
 
--- src/maps.rt:25:1
 same-length : tie.Need-same-length Inv-loop μ-loop
 same-length c = c .before .loop .inv .below .long
 
--- src/maps.rt:25:1
 returns : tie.Need-returns Inv-loop μ-loop
 returns c = lone _ _ _ _ _ _ (c .before .loop .inv) (c .loop-test .left)
 

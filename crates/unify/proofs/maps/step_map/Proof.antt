@@ -11,43 +11,33 @@ use Rattle.unify.proofs.made.apart.Reads as apart-reads
 use Rattle.unify.proofs.made.stop.Reads as stop-reads
 use Rattle.unify.proofs.maps.after_value.Reads as after-value-reads
 
--- src/maps.rt:105:23
 enum-known-u : tie.Need-enum-known-u
 enum-known-u c = search needs
 
--- src/maps.rt:105:31
 after-value-requires : tie.Need-after-value-requires
 after-value-requires c κs = let st = c .before .before .before .before .before in let a = st .args in (subst (λ (u : Unified). SomePair (a .work .now) (a .mark) (a .f) u) (c .before .before .u .given .1) (st .pre .0), st .pre .1)
 
--- src/maps.rt:106:29
 enum-known-u-2 : tie.Need-enum-known-u-2
 enum-known-u-2 c = search needs
 
--- src/maps.rt:106:47
 apart-requires : tie.Need-apart-requires
 apart-requires c κs = search needs
 
--- src/maps.rt:107:30
 enum-told : tie.Need-enum-told
 enum-told c = search needs
 
--- src/maps.rt:107:30
 stop-requires : tie.Need-stop-requires
 stop-requires c κs = search needs
 
--- src/maps.rt:100:1
 same-length : tie.Need-same-length
 same-length c = search needs
 
--- src/maps.rt:100:1
 returns : tie.Need-returns
 returns c = let st = c .before .before .before .before .before .before .before .before in let a = st .args in done-stepped (a .work .now) (a .mark) (a .f) (st .pre .1) _ (a .u) _ _ (c .before .before .before .before .before .u .given .1) (c .before .before .after-value .ensures)
 
--- src/maps.rt:100:1
 returns-2 : tie.Need-returns-2
 returns-2 c = let st = c .before .before .before .before .before in let a = st .args in apart-stepped (a .work .now) (a .mark) (a .f) (st .pre .1) (a .u) _ _ _ _ _ (c .before .before .u2 .given .1) (c .apart .ensures)
 
--- src/maps.rt:100:1
 returns-3 : tie.Need-returns-3
 returns-3 c = let st = c .before .before .before .before in let a = st .args in large-stepped (a .work .now) (a .mark) (a .f) (st .pre .1) (a .u) _ (c .before .enum-told .given .1) (c .stop .ensures)
 
