@@ -1,10 +1,7 @@
 pub mod Run
-pub mod Texts
 pub mod Cases
+pub mod Texts
 pub mod LimitCases
-pub mod SizeCases
-pub mod WalkCases
-pub mod LongCases
 pub mod Order
 pub mod All
 pub mod Words

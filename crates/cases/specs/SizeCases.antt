@@ -1,10 +1,9 @@
 -- The limits of document 01, second part: sizes of types, where a refusal with 6 falls, buffers (causes 1, 2, 6, 7, 9).
 -- Too large is over 1,024 bytes or nesting over 32 (01, "Type lines").
-use mathlib.Core.Path.{refl}
 use mathlib.Core.List.{List, [], _∷_, _++_}
 use Rattle.semantics.specs.Bytes.{Bytes, text}
-use Rattle.semantics.proofs.Cases.{Case, Pass, typed, unified, wrote, zeroed, as-lent, reply, expected}
+use Rattle.semantics.proofs.Cases.{Case, typed, unified, wrote, zeroed, as-lent}
 use Rattle.semantics.proofs.Texts.{many, refusesᵇ, returning, hasType, stops, pairOf, two, Two, three, Three, one, One, deep, Deep, unifiesᵇ, reads, partsᵇ, exceeds, unread, lending, outputting}
 
 -- ## 1,024 and 1,025 bytes in a sheet; the line is that of the innermost expression being typed
 
@@ -219,7 +218,3 @@ bufferCases =
 
 abbrev pub cases : List Case
 cases = byteCases ++ nestingCases ++ unifyCases ++ bufferCases
-
-pub all-pass : Pass cases
-unfolding reply expected text
-all-pass = refl

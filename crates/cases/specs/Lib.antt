@@ -1,0 +1,5 @@
+pub mod WalkCases
+pub mod LimitCases
+pub mod SizeCases
+pub mod LongCases
+pub mod Held
