@@ -15,8 +15,12 @@ WORDS = re.search(r"pub data Word : Type 0 where\n((?:  .* : Word\n)+)", SHEET).
 FIELDS = {"variable": 7, "optional": 8, "name": 9, "alias": 10, "bound": 11, "letter": 12, "signed": 13, "float": 14, "count": 5, "range 1 1": 6}
 FIELDS |= {"upto 1": 1, "upto 2": 2, "upto 3": 3, "upto 19": 4}
 RULES = "varType element slice listing mapping calling operator unary casing membership comprehension".split()
+RULE_NAMES = "CONSTANT VARIABLE ELEMENT SLICE LISTING MAPPING CALL OPERATOR UNARY CASING MEMBERSHIP COMPREHENSION SILENT ENTRY".split()
+LETTER_NAMES = "ANY NULL BOOL INT FLOAT NUM STRING DATE DATETIME LIST MAP NODE RELATIONSHIP PATH UNION UNKNOWN".split()
 LETTERS = dict(re.findall(r"^letter (t\w+) = (\d+)$", (CRATES / "semantics" / "specs" / "Ty.antt").read_text(), re.M))
 changed = []
+# up to the end of a file
+END = ""
 
 
 def group(place, least, per, bit):
@@ -109,9 +113,14 @@ def put(path, *swaps):
     text = (CRATES / path).read_text()
     for start, stop, new in swaps:
         a = text.index(start) + len(start)
-        b = text.index(stop, a)
+        b = len(text) if stop == END else text.index(stop, a)
         text = text[:a] + new + text[b:]
     write(path, text)
+
+
+def named(pairs):
+    """Arms whose word and value have names of their own."""
+    return "".join(f"        {key} => {value},\n" for key, value in pairs)
 
 
 def arms(pairs):
@@ -176,8 +185,13 @@ def main():
     typed = [i for i, r in enumerate(every, 1) if r["rule"] != 12]
     span = range(typed[0], typed[-1] + 1)
     table = [every[i - 1] for i in span]
-    put("infer/src/rule.rt", ("    match word {\n", "        _ => 12", arms((i, r["rule"], r["spelled"]) for i, r in zip(span, table))))
-    put("infer/src/step.rt", ("fn letter_of(word: usize) -> u8\n    ensures { λ r. ⌜ LetterBy word r ⌝ }\n{\n    match word {\n", "        _ => 80", arms((i, r["letter"], r["spelled"]) for i, r in zip(span, table))))
+    put("line/src/word_numbers.rt", ("by tools/line_table.py.\n", END, "".join(f"pub const {w}: usize = {i};\n\n" for w, i in NUMBER.items()).rstrip("\n") + "\n"))
+    snake = [(re.sub(r"(?<!^)(?=[A-Z])", "_", name).upper(), n) for name, n in PLACES]
+    put("line/src/places.rt", ("by tools/line_table.py.\n", END, "".join(f"pub const {name}: usize = {n};\n\n" for name, n in snake).rstrip("\n") + "\n"))
+    exported = [("places", name) for name, _ in snake] + [("word_numbers", w) for w in WORDS]
+    put("line/src/lib.rt", ("by tools/line_table.py.\n", END, "".join(f"pub use {module}::{name};\n" for module, name in sorted(exported))))
+    put("infer/src/rule.rt", ("    match word {\n", "        _ => SILENT", named((f"line::{w}", RULE_NAMES[ROWS[w]["rule"]]) for w in WORDS[span[0] - 1:span[-1]])))
+    put("infer/src/step.rt", ("fn letter_of(word: usize) -> u8\n    ensures { λ r. ⌜ LetterBy word r ⌝ }\n{\n    match word {\n", "        _ => ty::UNKNOWN", named((f"line::{w}", f"ty::{LETTER_NAMES[ROWS[w]['letter'] - 65]}") for w in WORDS[span[0] - 1:span[-1]])))
     put("infer/proofs/RoleLaws.antt", ("typedFrom = ", "\n", str(span[0])), ("typedMany = ", "\n", str(len(span))))
     proof("infer.rule.rule_of", "an arm's number is the rule of its word; behind the arms no word has one.",
           "use mathlib.Core.Path.{refl}\nuse Rattle.semantics.specs.Sheet.{row}\nuse Rattle.line.specs.Rows.{numbered}\nuse Rattle.infer.specs.Steps.{typingNo, ruleNo}\n"

@@ -1,4 +1,4 @@
-//! The calls, by the reference: number, returned numbers, and every byte of output and work area (01, the table of causes).
+//! The calls, by the reference: number, returned numbers, and every byte of output and work area (RULES 7).
 
 use crate::limited::infer::infer_types;
 use crate::limited::unify::{unify, Stop};

@@ -1,9 +1,10 @@
 //! The comparison of the static library with the reference: number, returned numbers, and every byte of both buffers and
-//! around them; old lines by [`old::compare`], validation by [`validation`].
+//! around them; old lines by [`old::compare`], validation by [`validation`], stores of types by [`catalogue::compare`].
 
 use crate::calls;
 use crate::cases::{fixed_pair_cases, fixed_sheet_cases, pair_case, sheet_case, Case};
-use crate::library::{CheckCall, RegularCall, SheetCall, UnifyCall};
+use crate::catalogue;
+use crate::library::{Library, SheetCall, UnifyCall};
 use crate::old;
 use crate::random::Random;
 use crate::shrink::smallest;
@@ -83,64 +84,54 @@ pub(crate) fn settle_pair(call: UnifyCall, a: &[u8], b: &[u8], work: usize, out:
     settle(work, out, |work, out| call(a, b, work, out))
 }
 
-/// The library's calls that are compared.
-#[derive(Clone, Copy)]
-pub struct Library {
-    pub sheet: Option<SheetCall>,
-    pub unify: Option<UnifyCall>,
-    pub regular: Option<RegularCall>,
-    pub check: Option<CheckCall>,
+/// What the reference and the library leave.
+fn both(library: &Library, case: &Case) -> (Settled, Settled) {
+    match case {
+        Case::Sheet { sheet, work, out } => {
+            let by = |call| settle_sheet(call, sheet, *work, *out);
+            (by(calls::sheet_call), by(library.sheet))
+        }
+        Case::Pair { a, b, work, out } => {
+            let by = |call| settle_pair(call, a, b, *work, *out);
+            (by(calls::unify_call), by(library.unify))
+        }
+    }
 }
 
-impl Library {
-    pub fn linked() -> Self {
-        Library {
-            sheet: crate::library::sheet_call(),
-            unify: crate::library::unify_call(),
-            regular: crate::library::regular_call(),
-            check: crate::library::check_call(),
+fn differs(library: &Library, case: &Case) -> bool {
+    let (expected, actual) = both(library, case);
+    expected != actual
+}
+
+/// Which of the two calls with both buffers are compared.
+#[derive(Debug, Clone, Copy, PartialEq, Eq)]
+pub enum Kind {
+    Sheets,
+    Pairs,
+    Both,
+}
+
+impl Kind {
+    /// The fixed cases, with their names.
+    fn fixed(self) -> Vec<(String, Case)> {
+        let mut cases = Vec::new();
+        if self != Kind::Pairs {
+            println!("compared: cyrs_infer_types");
+            cases.extend(fixed_sheet_cases());
         }
-    }
-
-    pub fn is_empty(&self) -> bool {
-        self.has_no_cases() && self.regular.is_none() && self.check.is_none()
-    }
-
-    /// Whether there is at most what has a comparison of its own: old lines, and validation, which has no buffers.
-    fn has_no_cases(&self) -> bool {
-        self.sheet.is_none() && self.unify.is_none()
-    }
-
-    /// What the reference and the library leave; none if the library has no such call.
-    fn both(&self, case: &Case) -> Option<(Settled, Settled)> {
-        match case {
-            Case::Sheet { sheet, work, out } => {
-                let call = self.sheet?;
-                Some((
-                    settle_sheet(calls::sheet_call, sheet, *work, *out),
-                    settle_sheet(call, sheet, *work, *out),
-                ))
-            }
-            Case::Pair { a, b, work, out } => {
-                let call = self.unify?;
-                Some((
-                    settle_pair(calls::unify_call, a, b, *work, *out),
-                    settle_pair(call, a, b, *work, *out),
-                ))
-            }
+        if self != Kind::Sheets {
+            println!("compared: cyrs_unify");
+            cases.extend(fixed_pair_cases());
         }
+        cases
     }
 
-    fn differs(&self, case: &Case) -> bool {
-        self.both(case).is_some_and(|(x, y)| x != y)
-    }
-
-    fn random_case(&self, rng: &mut Random) -> Case {
-        match (self.sheet, self.unify) {
-            (None, _) => pair_case(rng),
-            (_, None) => sheet_case(rng),
-            _ if rng.once_in(2) => pair_case(rng),
-            _ => sheet_case(rng),
+    fn random(self, rng: &mut Random) -> Case {
+        match self {
+            Kind::Sheets => sheet_case(rng),
+            Kind::Pairs => pair_case(rng),
+            Kind::Both if rng.once_in(2) => pair_case(rng),
+            Kind::Both => sheet_case(rng),
         }
     }
 }
@@ -148,32 +139,25 @@ impl Library {
 /// Compares each call on all its fixed inputs and on `count` random ones, which sheets and pairs share; true if nothing
 /// differs.
 pub fn run(library: Library, count: u64, seed: u64) -> bool {
-    let cases = library.has_no_cases() || run_cases(library, count, seed);
-    let regular = |call| old::compare::run(call, count, seed);
-    let cases = library.regular.is_none_or(regular) && cases;
-    let check = |call| validation::run(call, count, seed);
-    library.check.is_none_or(check) && cases
+    let results = [
+        run_cases(library, Kind::Both, count, seed),
+        old::compare::run(library.regular, count, seed),
+        validation::run(library.check, count, seed),
+        catalogue::compare::run(library.store, count, seed),
+    ];
+    results.into_iter().all(|same| same)
 }
 
 /// Compares all fixed cases and `count` random ones; true if nothing differs.
-fn run_cases(library: Library, count: u64, seed: u64) -> bool {
+pub fn run_cases(library: Library, kind: Kind, count: u64, seed: u64) -> bool {
     let mut run = Run::new(library);
-    if library.sheet.is_some() {
-        println!("compared: cyrs_infer_types");
-        for (name, case) in fixed_sheet_cases() {
-            run.compare(case, &format!("fixed case {name}"));
-        }
-    }
-    if library.unify.is_some() {
-        println!("compared: cyrs_unify");
-        for (name, case) in fixed_pair_cases() {
-            run.compare(case, &format!("fixed case {name}"));
-        }
+    for (name, case) in kind.fixed() {
+        run.compare(case, &format!("fixed case {name}"));
     }
     println!("{} fixed cases compared", run.cases);
     for i in 0..count {
         let one = seed.wrapping_add(i);
-        let case = library.random_case(&mut Random::new(one));
+        let case = kind.random(&mut Random::new(one));
         run.compare(case, &format!("seed {one}"));
         if run.differences >= SHOWN {
             println!("stopped after {SHOWN} differences");
@@ -207,9 +191,7 @@ impl Run {
     }
 
     fn compare(&mut self, case: Case, from: &str) {
-        let Some((expected, actual)) = self.library.both(&case) else {
-            return;
-        };
+        let (expected, actual) = both(&self.library, &case);
         self.cases += 1;
         let kind = usize::from(matches!(case, Case::Pair { .. }));
         self.numbers[kind][expected.number as usize % 10] += 1;
@@ -219,18 +201,17 @@ impl Run {
         self.differences += 1;
         if self.differences <= SHOWN {
             println!("DIFFERENCE {} ({from})", self.differences);
-            let least = smallest(case, |c| self.library.differs(c));
+            let least = smallest(case, |c| differs(&self.library, c));
             self.show(&least);
         }
     }
 
     fn show(&self, case: &Case) {
         show_case(case);
-        if let Some((expected, actual)) = self.library.both(case) {
-            show_settled("reference", &expected);
-            show_settled("library", &actual);
-            show_buffers(["reference", "library"], &expected, &actual);
-        }
+        let (expected, actual) = both(&self.library, case);
+        show_settled("reference", &expected);
+        show_settled("library", &actual);
+        show_buffers(["reference", "library"], &expected, &actual);
     }
 
     fn progress(&self, done: u64, count: u64) {

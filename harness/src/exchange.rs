@@ -1,6 +1,5 @@
-//! Unification from either side (02, ask 7): two texts in both orders, every byte of both buffers.
+//! Unification from either side (RULES 10.2, ask 7): two texts in both orders, every byte of both buffers.
 
-use crate::calls;
 use crate::cases::{pair_call, Case};
 use crate::differential::{settle_pair, show_buffers, show_case, show_settled, Settled, SHOWN};
 use crate::generate::union_free::{holds_union, union_free_texts};
@@ -81,14 +80,9 @@ pub fn agrees(call: UnifyCall, case: &Case) -> Option<u32> {
     (both.expected == both.back).then_some(both.there.number)
 }
 
-/// Runs `count` random pairs in both orders by the linked library, or by the reference if none is linked; true if both
-/// orders always agree.
-pub fn run(linked: Option<UnifyCall>, count: u64, seed: u64) -> bool {
-    let (who, call) = match linked {
-        Some(call) => ("cyrs_unify", call),
-        None => ("the reference", calls::unify_call as UnifyCall),
-    };
-    println!("in both orders: {who}");
+/// Runs `count` random pairs in both orders; true if both orders always agree.
+pub fn run(call: UnifyCall, count: u64, seed: u64) -> bool {
+    println!("in both orders: cyrs_unify");
     let start = Instant::now();
     let mut numbers = [0u64; 10];
     let mut different = 0;

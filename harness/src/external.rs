@@ -11,7 +11,7 @@ use std::io::{self, Read, Write};
 use std::process::{Command, Stdio};
 use std::time::Instant;
 
-/// What the program `typesheet` has to write for a sheet (01, A sheet enters).
+/// What the program `typesheet` has to write for a sheet (RULES 7.9).
 pub fn expected_output(sheet: &[u8]) -> Vec<u8> {
     let mut work = vec![0; WORK_BYTES];
     let mut out = vec![0; TYPESHEET_OUT_BYTES];

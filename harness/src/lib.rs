@@ -1,4 +1,4 @@
-//! The differential harness: the Rust reference with document 01's sheets, limits and refusals around it, generators,
+//! The differential harness: the Rust reference with the sheets, limits and refusals of docs/RULES.md around it, generators,
 //! fixed answers, and the comparison with the static library.
 
 pub mod bench;

@@ -1,4 +1,4 @@
-//! The limits of documents 01 and 02, each once.
+//! The limits of docs/RULES.md, each once.
 
 /// Longest sheet, in bytes.
 pub const SHEET_BYTES: usize = 65_535;
@@ -20,7 +20,7 @@ pub const COUNT: u64 = 9_999;
 pub const VAR: u64 = u32::MAX as u64;
 /// Deepest expression.
 pub const DEPTH: usize = 24;
-/// Longest old type line, in bytes (02, ask 11).
+/// Longest old type line, in bytes (RULES 10.3, ask 11).
 pub const OLD_BYTES: usize = 4_096;
-/// Shortest output for a regular line (02, ask 11).
+/// Shortest output for a regular line (RULES 10.3, ask 11).
 pub const REGULAR_OUT_BYTES: usize = 1_024;

@@ -1,21 +1,24 @@
 //! The commands of the harness; README.md tells of each.
 
-use cyrs_harness::differential::{self, Library};
-use cyrs_harness::library::store_calls;
+use cyrs_harness::differential::{self, Kind};
+use cyrs_harness::library::{self, Library, NOT_LINKED};
 use cyrs_harness::{
-    bench, catalogue, exchange, external, facts, library, old, self_check, vectors,
+    bench, catalogue, exchange, external, facts, old, self_check, validation, vectors,
 };
 use std::env;
 use std::path::Path;
 use std::process::ExitCode;
 
-const USAGE: &str = "usage:
-  cyrs-harness N [SEED]                  compare the linked library on all fixed and N random cases
-  cyrs-harness old N [SEED]              the same for old type lines alone
-  cyrs-harness exchange N [SEED]         unify N pairs without unions in both orders, by the linked library or the reference
-  cyrs-harness quick                     all of it with 40,000 cases, after a short check of the reference
-  cyrs-harness bench                     measure the linked calls and the reference on the same inputs
-  cyrs-harness catalogue N [SEED]        compare the linked calls on a store: all fixed and N random calls
+const USAGE: &str = "usage, with the library linked (CYRS_LIB when this is built):
+  cyrs-harness N [SEED]                  compare all its calls with the reference on all fixed and N random inputs
+  cyrs-harness CALL N [SEED]             the same for one: sheets, pairs, validation, old or catalogue
+  cyrs-harness exchange N [SEED]         unify N pairs without unions in both orders
+  cyrs-harness quick                     all of it with 40,000 inputs, after a short check of the reference
+  cyrs-harness bench                     measure the calls and the reference on the same inputs
+  cyrs-harness bench counts FILE         the same, with the instructions that tools/instructions.sh counted
+  cyrs-harness bench list                each family, each of its sides, and turns enough to count instructions
+  cyrs-harness bench one FAMILY SIDE N   run one side (library, reference, bare) of a family N turns, with no measurement
+with or without it:
   cyrs-harness self N [SEED]             check the reference alone, N rounds
   cyrs-harness vectors DIR               write the fixed answers into DIR
   cyrs-harness typesheet PATH N [SEED]   compare a typesheet program on all fixed and N random sheets
@@ -40,23 +43,11 @@ fn main() -> ExitCode {
 
 fn command(args: &[&str]) -> Result<bool, String> {
     match args {
-        ["quick"] => quick(),
-        ["bench"] => Ok(bench::run()),
-        ["exchange", rest @ ..] => {
-            let (count, seed) = count_and_seed(rest)?;
-            Ok(exchange::run(library::unify_call(), count, seed))
-        }
-        ["old", rest @ ..] => {
-            let (count, seed) = count_and_seed(rest)?;
-            Ok(compare_old(count, seed))
-        }
+        ["quick"] => Ok(with_library(quick)),
+        ["bench", rest @ ..] => measure(rest),
         ["self", rest @ ..] => {
             let (count, seed) = count_and_seed(rest)?;
-            check_reference(count, seed)
-        }
-        ["catalogue", rest @ ..] => {
-            let (count, seed) = count_and_seed(rest)?;
-            Ok(compare_store(count, seed).unwrap_or_else(nothing_linked))
+            Ok(check_reference(count, seed))
         }
         ["vectors", folder] => write_vectors(folder),
         ["typesheet", path, rest @ ..] => {
@@ -65,10 +56,58 @@ fn command(args: &[&str]) -> Result<bool, String> {
         }
         ["facts", rest @ .., "--keep", folder] => check_facts(rest, Some(folder)),
         ["facts", rest @ ..] => check_facts(rest, None),
-        rest => {
-            let (count, seed) = count_and_seed(rest)?;
-            compare(count, seed)
+        [name, rest @ ..] => match comparison(name) {
+            Some(run) => compare(run, rest),
+            None => compare(differential::run, args),
+        },
+        [] => Err(USAGE.to_string()),
+    }
+}
+
+/// Compares a library with the reference on all fixed inputs and so many random ones from a seed on; true if nothing differs.
+type Comparison = fn(Library, u64, u64) -> bool;
+
+/// The comparison of one call alone, by its name.
+fn comparison(name: &str) -> Option<Comparison> {
+    Some(match name {
+        "sheets" => |l, count, seed| differential::run_cases(l, Kind::Sheets, count, seed),
+        "pairs" => |l, count, seed| differential::run_cases(l, Kind::Pairs, count, seed),
+        "validation" => |l, count, seed| validation::run(l.check, count, seed),
+        "old" => |l, count, seed| old::compare::run(l.regular, count, seed),
+        "catalogue" => |l, count, seed| catalogue::compare::run(l.store, count, seed),
+        "exchange" => |l, count, seed| exchange::run(l.unify, count, seed),
+        _ => return None,
+    })
+}
+
+fn compare(run: Comparison, args: &[&str]) -> Result<bool, String> {
+    let (count, seed) = count_and_seed(args)?;
+    Ok(with_library(|library| run(library, count, seed)))
+}
+
+/// What needs the linked library; without one it fails, since nothing was compared.
+fn with_library(run: impl FnOnce(Library) -> bool) -> bool {
+    let Some(library) = library::linked() else {
+        eprintln!("{NOT_LINKED}");
+        return false;
+    };
+    run(library)
+}
+
+fn measure(args: &[&str]) -> Result<bool, String> {
+    let Some(library) = library::linked() else {
+        eprintln!("{NOT_LINKED}");
+        return Ok(false);
+    };
+    match args {
+        [] => bench::run(library, None),
+        ["counts", file] => bench::run(library, Some(Path::new(file))),
+        ["list"] => {
+            bench::list(library);
+            Ok(true)
         }
+        ["one", family, side, turns] => bench::one(library, family, side, number(turns)?),
+        _ => Err(USAGE.to_string()),
     }
 }
 
@@ -84,48 +123,21 @@ fn count_and_seed(args: &[&str]) -> Result<(u64, u64), String> {
     }
 }
 
-fn compare(count: u64, seed: u64) -> Result<bool, String> {
-    let library = Library::linked();
-    let cases = (!library.is_empty()).then(|| differential::run(library, count, seed));
-    let results = [cases, compare_store(count, seed)];
-    let compared = results.into_iter().flatten().reduce(|a, b| a && b);
-    Ok(compared.unwrap_or_else(nothing_linked))
+fn quick(library: Library) -> bool {
+    check_reference(5_000, SEED)
+        && differential::run(library, 40_000, SEED)
+        && exchange::run(library.unify, 20_000, SEED)
 }
 
-/// Compares the calls on a store of types, if they are linked.
-fn compare_store(count: u64, seed: u64) -> Option<bool> {
-    store_calls().map(|calls| catalogue::compare::run(calls, count, seed))
-}
-
-fn nothing_linked() -> bool {
-    println!("no such call is linked (CYRS_LIB and CYRS_CALLS at build time): nothing compared");
-    true
-}
-
-fn compare_old(count: u64, seed: u64) -> bool {
-    let Some(call) = library::regular_call() else {
-        println!("cyrs_regular_line is not linked (CYRS_LIB, CYRS_CALLS at build time): nothing compared");
-        return true;
-    };
-    old::compare::run(call, count, seed)
-}
-
-fn quick() -> Result<bool, String> {
-    let exchanged = || exchange::run(library::unify_call(), 20_000, SEED);
-    Ok(check_reference(5_000, SEED)? && compare(40_000, SEED)? && exchanged())
-}
-
-fn check_reference(count: u64, seed: u64) -> Result<bool, String> {
+fn check_reference(count: u64, seed: u64) -> bool {
     match self_check::run(count, seed) {
-        Ok(seen) => {
-            println!("the reference agrees with itself: {seen:#?}");
-            Ok(true)
-        }
+        Ok(seen) => println!("the reference agrees with itself: {seen:#?}"),
         Err(message) => {
             println!("{message}");
-            Ok(false)
+            return false;
         }
     }
+    true
 }
 
 fn check_facts(args: &[&str], keep: Option<&str>) -> Result<bool, String> {

@@ -1,4 +1,4 @@
-//! The report of a sheet (01, The walk), from either form of the reference.
+//! The report of a sheet (RULES 6), from either form of the reference.
 
 use crate::limited::infer::properties;
 use crate::reference::hir::{Clause, Expr, RemoveItem, SetItem, Statement};
@@ -137,7 +137,7 @@ fn write_diagnostic(diagnostic: &Diagnostic, lines: &mut Lines) {
     lines.fault(code, &quoted[quoted.len() - count..]);
 }
 
-/// The top expressions (01, The walk), in order.
+/// The top expressions (RULES 3.1), in order.
 pub fn top_expressions(stmt: &Statement) -> Vec<&Expr> {
     let mut tops = Vec::new();
     for clause in &stmt.clauses {

@@ -143,7 +143,7 @@ fn check_pair(rng: &mut Random, seen: &mut Seen) -> Result<(), String> {
     Ok(())
 }
 
-/// The unify call from either side (02, ask 7).
+/// The unify call from either side (RULES 10.2, ask 7).
 fn check_exchange(rng: &mut Random, seen: &mut Seen) -> Result<(), String> {
     let case = exchange_case(rng);
     let number = agrees(unify_call, &case)

@@ -1,4 +1,4 @@
-//! Type lines (01, Type lines): written, and read strictly.
+//! Type lines (RULES 4): written, and read strictly.
 
 use crate::limits::{NAME_BYTES, TYPE_BYTES, TYPE_NESTING};
 use crate::reference::stand_ins::SmolStr;

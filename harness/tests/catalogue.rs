@@ -9,7 +9,7 @@ use cyrs_harness::catalogue::probes::{every_byte, store_probes, taking};
 use cyrs_harness::catalogue::sequence::{every_number, filled_and_released, many_short, Sequence};
 use cyrs_harness::catalogue::store::{front, read_store, stored};
 use cyrs_harness::catalogue::{Catalogue, Live, NUMBER, ROOM, STORE_BYTES, USES};
-use cyrs_harness::library::{store_calls, StoreCalls};
+use cyrs_harness::library::{linked, StoreCalls, NOT_LINKED};
 use cyrs_harness::random::Random;
 use cyrs_harness::type_line::read_type_line;
 use std::collections::BTreeSet;
@@ -207,11 +207,10 @@ fn lines_to_enter() {
 }
 
 #[test]
+#[cfg_attr(not(cyrs_linked), ignore = "no library is linked (CYRS_LIB)")]
 fn linked_store_calls() {
-    match store_calls() {
-        Some(calls) => assert!(run(calls, 5_000, 3)),
-        None => println!("no library is linked: nothing compared"),
-    }
+    let library = linked().expect(NOT_LINKED);
+    assert!(run(library.store, 5_000, 3));
 }
 
 /// The two forms in Rust agree.

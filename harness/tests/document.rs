@@ -1,4 +1,4 @@
-//! The cases and the whole example of document 01, its list of mistakes, each fault, and the open points that were decided.
+//! The cases and the whole example (RULES 9.2, 6.3), mistakes that read naturally, each fault, and the open points that were decided.
 
 use cyrs_harness::calls::{sheet_call, unify_call};
 use cyrs_harness::limits::{DEPTH, TYPESHEET_OUT_BYTES, WORK_BYTES};

@@ -52,7 +52,7 @@ fn every_number() {
 
 #[test]
 fn orders_that_do_not_agree_show() {
-    assert!(run(None, 300, 4));
+    assert!(run(unify_call, 300, 4));
     let lengths_stay: UnifyCall = |a, b, work, out| {
         let (number, first, second) = unify_call(a, b, work, out);
         match number {
@@ -72,6 +72,6 @@ fn orders_that_do_not_agree_show() {
         answer
     };
     for faulty in [lengths_stay, place_one, one_byte] {
-        assert!(!run(Some(faulty), 300, 4));
+        assert!(!run(faulty, 300, 4));
     }
 }

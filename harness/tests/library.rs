@@ -2,84 +2,69 @@
 
 use cyrs_harness::calls::sheet_report;
 use cyrs_harness::cases::Case;
-use cyrs_harness::differential::{run, Library};
+use cyrs_harness::differential::{run, run_cases, Kind};
 use cyrs_harness::generate::sheets::tree;
 use cyrs_harness::generate::tree::{Line, Tree};
+use cyrs_harness::library::{linked, Library, NOT_LINKED, REFERENCE};
 use cyrs_harness::library::{CheckCall, RegularCall, SheetCall, UnifyCall};
 use cyrs_harness::old::call::regular_call;
 use cyrs_harness::random::Random;
 use cyrs_harness::shrink::{smallest, smallest_sheet};
-use cyrs_harness::{calls, limits};
+use cyrs_harness::{calls, limits, validation};
 
 #[test]
+#[cfg_attr(not(cyrs_linked), ignore = "no library is linked (CYRS_LIB)")]
 fn linked_library() {
-    let library = Library::linked();
-    if library.is_empty() {
-        println!("no library is linked: nothing compared");
-        return;
-    }
-    assert!(run(library, 5_000, 3));
+    let library = linked().expect(NOT_LINKED);
+    assert!(run_cases(library, Kind::Both, 5_000, 3));
+    assert!(validation::run(library.check, 5_000, 3));
 }
-
-const NONE: Library = Library {
-    sheet: None,
-    unify: None,
-    regular: None,
-    check: None,
-};
 
 /// The comparison itself: the reference against itself is equal, and against one with a fault is not.
 #[test]
 fn a_faulty_library_shows() {
-    let good: SheetCall = calls::sheet_call;
-    let pairs: UnifyCall = calls::unify_call;
-    let check: CheckCall = calls::check_call;
-    let library = Library {
-        sheet: Some(good),
-        unify: Some(pairs),
-        regular: Some(regular_call),
-        check: Some(check),
-    };
-    assert!(run(library, 300, 4));
-    let faulty: SheetCall = |sheet, work, out| {
+    assert!(run_cases(REFERENCE, Kind::Both, 300, 4));
+    let sheet: SheetCall = |sheet, work, out| {
         let answer = calls::sheet_call(sheet, work, out);
         if answer.0 == 3 && work.len() == limits::WORK_BYTES {
             work[65_535] = 1;
         }
         answer
     };
-    let library = Library {
-        sheet: Some(faulty),
-        ..NONE
-    };
-    assert!(!run(library, 300, 4));
-    let faulty: UnifyCall = |a, b, work, out| {
+    let faulty = Library { sheet, ..REFERENCE };
+    assert!(!run_cases(faulty, Kind::Sheets, 300, 4));
+    assert!(!run_cases(faulty, Kind::Both, 300, 4));
+    let unify: UnifyCall = |a, b, work, out| {
         let (number, first, second) = calls::unify_call(a, b, work, out);
         (number, first, second + u64::from(number == 8))
     };
-    let library = Library {
-        unify: Some(faulty),
-        ..NONE
-    };
-    assert!(!run(library, 300, 4));
-    let faulty: RegularCall = |line, work, out| {
-        let (number, first) = regular_call(line, work, out);
-        (number, first + u64::from(number == 12))
-    };
-    let library = Library {
-        regular: Some(faulty),
-        ..NONE
-    };
-    assert!(!run(library, 300, 4));
-    let faulty: CheckCall = |sheet| {
+    let faulty = Library { unify, ..REFERENCE };
+    assert!(!run_cases(faulty, Kind::Pairs, 300, 4));
+    assert!(!run_cases(faulty, Kind::Both, 300, 4));
+}
+
+#[test]
+fn faulty_validation_shows() {
+    let check: CheckCall = |sheet| {
         let (number, place) = calls::check_call(sheet);
         (number, place + u64::from(number == 5))
     };
-    let library = Library {
-        check: Some(faulty),
-        ..NONE
+    assert!(validation::run(calls::check_call, 300, 4));
+    assert!(!validation::run(check, 300, 4));
+}
+
+/// When all calls are compared, a fault in one is not lost behind those that agree.
+#[test]
+fn one_fault_among_all_calls_shows() {
+    let regular: RegularCall = |line, work, out| {
+        let (number, first) = regular_call(line, work, out);
+        (number, first + u64::from(number == 12))
     };
-    assert!(!run(library, 300, 4));
+    let faulty = Library {
+        regular,
+        ..REFERENCE
+    };
+    assert!(!run(faulty, 300, 4));
 }
 
 /// The search for a smallest input gets through the structure of a sheet and of a type.

@@ -1,10 +1,10 @@
-//! Old type lines made regular (02, ask 11): cases, both sides of every limit, the meaning, the comparison itself.
+//! Old type lines made regular (RULES 10.3, ask 11): cases, both sides of every limit, the meaning, the comparison itself.
 
 use cyrs_harness::generate::old::{
     any_old, damaged_everywhere, loosened, old_probes, small_lines, stretched, EVERY_LETTER,
 };
 use cyrs_harness::generate::types::{any_type, large, Domain};
-use cyrs_harness::library::{regular_call as linked, RegularCall};
+use cyrs_harness::library::{linked, RegularCall, NOT_LINKED};
 use cyrs_harness::limits::{REGULAR_OUT_BYTES, TYPE_NESTING, WORK_BYTES};
 use cyrs_harness::old::call::{regular_call, regular_line};
 use cyrs_harness::old::compare;
@@ -158,11 +158,10 @@ fn lines_are_stretched() {
 }
 
 #[test]
+#[cfg_attr(not(cyrs_linked), ignore = "no library is linked (CYRS_LIB)")]
 fn linked_library() {
-    match linked() {
-        Some(call) => assert!(compare::run(call, 5_000, 3)),
-        None => println!("cyrs_regular_line is not linked: nothing compared"),
-    }
+    let library = linked().expect(NOT_LINKED);
+    assert!(compare::run(library.regular, 5_000, 3));
 }
 
 /// The comparison itself: the reference against itself is equal, and against one with a fault is not.

@@ -1,4 +1,4 @@
-//! Both sides of every limit, as 01 says of each.
+//! Both sides of every limit, as RULES say of each.
 
 use cyrs_harness::calls::{sheet_call, unify_call};
 use cyrs_harness::generate::probes::{pair_probes, sheet_probes};

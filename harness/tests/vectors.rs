@@ -2,7 +2,7 @@
 
 use cyrs_harness::catalogue::cases::{settle, REFERENCE};
 use cyrs_harness::catalogue::vectors::{self as stores, STORES_FILE};
-use cyrs_harness::library::store_calls;
+use cyrs_harness::library::{linked, NOT_LINKED};
 use cyrs_harness::limits::WORK_BYTES;
 use cyrs_harness::old::vectors as old;
 use cyrs_harness::old::vectors::OLD_FILE;
@@ -79,9 +79,15 @@ fn store_answers() {
     let numbers: BTreeSet<u32> = numbers.collect();
     let numbers: Vec<u32> = numbers.into_iter().collect();
     assert_eq!(numbers, [0, 2, 8, 13, 14, 15]);
-    if let Some(linked) = store_calls() {
-        assert!(stores::file_text(linked, &cases) == text);
-    }
+}
+
+#[test]
+#[cfg_attr(not(cyrs_linked), ignore = "no library is linked (CYRS_LIB)")]
+fn linked_store_answers() {
+    let calls = linked().expect(NOT_LINKED).store;
+    let text = stored(STORES_FILE);
+    let cases = stores::read(&text).unwrap_or_else(|e| panic!("{STORES_FILE}: {e}"));
+    assert!(stores::file_text(calls, &cases) == text);
 }
 
 /// The program `replay_store` is fed the store calls, if it is there.

@@ -38,15 +38,26 @@ pub fn short_lines() -> impl Iterator<Item = Vec<u8>> {
     letters.chain(lists).chain(empty).chain(one).chain(two)
 }
 
+/// How many slots there are.
+const SLOTS: usize = 32_768;
+
 /// A sum of a line's bytes as a search for equal lines may sort them by.
 fn slot(line: &[u8]) -> usize {
-    line.iter().fold(0, |h, &b| (h * 31 + b as usize) % 32_768)
+    line.iter().fold(0, |h, &b| (h * 31 + b as usize) % SLOTS)
 }
 
-/// Different lines of one slot.
+/// Different lines of slot 0 in order: names of eight digits, and for each front half of one the back halves that make up for it. The
+/// slot of a front and a back is the sum of the back's and of the front's with zeros in the back's place.
 pub fn one_slot() -> impl Iterator<Item = Vec<u8>> {
-    let lines = (0..u32::MAX).map(|i| format!("M,+,{i:08x},").into_bytes());
-    lines.filter(|line| slot(line) == 0)
+    let mut backs = vec![Vec::new(); SLOTS];
+    for back in 0..=u16::MAX {
+        backs[slot(format!("{back:04x},").as_bytes())].push(back);
+    }
+    (0..=u16::MAX).flat_map(move |front| {
+        let taken = slot(format!("M,+,{front:04x}\0\0\0\0\0").as_bytes());
+        let fitting = backs[(SLOTS - taken) % SLOTS].clone().into_iter();
+        fitting.map(move |back| format!("M,+,{front:04x}{back:04x},").into_bytes())
+    })
 }
 
 /// Some of them, found once.
@@ -100,5 +111,18 @@ pub fn lines(rng: &mut Random, pool: Pool) -> Vec<Vec<u8>> {
         Pool::Long => (0..rng.between(66, 120)).map(|_| long_line(rng)).collect(),
         Pool::OneSlot => few_of_one_slot().to_vec(),
         Pool::Short => short_lines().take(4_400).collect(),
+    }
+}
+
+#[cfg(test)]
+mod tests {
+    use super::*;
+
+    /// They are the lines that a search among all would find.
+    #[test]
+    fn lines_of_one_slot() {
+        let all = (0..u32::MAX).map(|i| format!("M,+,{i:08x},").into_bytes());
+        let found = all.filter(|line| slot(line) == 0);
+        assert!(found.take(100).eq(one_slot().take(100)));
     }
 }

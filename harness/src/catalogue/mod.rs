@@ -1,4 +1,4 @@
-//! The type catalogue (02, ask 12): a plain list of number, line and uses, with the last number given kept beside it; its
+//! The type catalogue (RULES 10.4, ask 12): a plain list of number, line and uses, with the last number given kept beside it; its
 //! store; and the comparison of the library's store calls with them.
 
 pub mod bench;

@@ -56,7 +56,7 @@ impl Settled {
             out.truncate(text);
             Left::Wrote(out)
         } else {
-            panic!("the reference leaves its buffers as 01 does not say: {case:?}")
+            panic!("the reference leaves its buffers as RULES 7.2 does not say: {case:?}")
         };
         Settled {
             number,

@@ -22,7 +22,7 @@ const WHOLE: usize = 9;
 
 /// What is drawn from.
 pub struct Drawer {
-    /// By the number that 01 says.
+    /// By the number that RULES 7 says.
     probed_sheets: Vec<Vec<Vec<u8>>>,
     probed_pairs: Vec<(Vec<u8>, Vec<u8>)>,
     small_pairs: Vec<(Vec<u8>, Vec<u8>)>,

@@ -1,4 +1,4 @@
-//! Rewordings of a sheet (the request's demand 3; 01, Rewordings).
+//! Rewordings of a sheet (RULES 8, demand 3).
 
 use super::exprs::other_case;
 use super::table::Field;

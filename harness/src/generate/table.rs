@@ -1,4 +1,4 @@
-//! The line words of 01 as a table: where each may stand, its fields, its children. Written apart from the reader, so
+//! The line words of RULES 2 as a table: where each may stand, its fields, its children. Written apart from the reader, so
 //! that each checks the other.
 
 /// Where a line may stand.

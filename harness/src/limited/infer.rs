@@ -84,7 +84,7 @@ impl InferCtx<'_> {
         }
     }
 
-    /// A top expression: its type goes into the report (01, The walk).
+    /// A top expression: its type goes into the report (RULES 3.1).
     fn top(&mut self, expr: &Expr) -> Result<(), TooLarge> {
         let ty = self.infer_expr(expr)?;
         self.entries.push(Entry::Type(ty));

@@ -1,4 +1,4 @@
-//! Which types are too large (01, Type lines): over 1,024 bytes of type line or nesting over 32.
+//! Which types are too large (RULES 4.6): over 1,024 bytes of type line or nesting over 32.
 
 use crate::limits::{TYPE_BYTES, TYPE_NESTING};
 use crate::reference::stand_ins::SmolStr;

@@ -23,7 +23,7 @@ fn tested(ty: Type) -> Result<Type, Stop> {
     }
 }
 
-/// `Type::union` with its answer tested. 01 also tests the union of each first part of the arguments. A union only grows
+/// `Type::union` with its answer tested. RULES 4.7 also tests the union of each first part of the arguments. A union only grows
 /// with its arguments, so some first part is too large exactly if the whole is, and nothing else happens in between:
 /// one test does for all.
 pub fn union(types: impl IntoIterator<Item = Type>) -> Result<Type, Stop> {

@@ -1,11 +1,12 @@
 //! The linked call against the reference on the same old lines: both read them, make them regular and write the line.
 
 use super::call::{regular_call, regular_line};
-use crate::bench::{nanoseconds, ROUNDS};
+use crate::bench::family::{turns, Family, Ready, Side, Turns};
 use crate::library::RegularCall;
 use crate::limits::{OLD_BYTES, REGULAR_OUT_BYTES, TYPE_NESTING, WORK_BYTES};
 use crate::random::Random;
 use std::hint::black_box;
+use std::rc::Rc;
 
 /// Fields in any order.
 fn shuffled(fields: impl Iterator<Item = String>) -> String {
@@ -25,44 +26,48 @@ fn lines() -> Vec<(&'static str, String)> {
     let types = shuffled((0..584).map(|i| format!("M,+,{:02x},", i % 145)));
     let unions = TYPE_NESTING - 1;
     vec![
-        ("J,D,", "J,D,".to_string()),
-        ("255 labels ascending", format!("L,+,{ascending}!,")),
-        ("1363 labels of 256", format!("L,+,{labels}!,")),
-        ("200 entries", format!("K,{small_map}!,")),
-        ("583 entries: 6", format!("K,{large_map}!,")),
-        ("2046 flat members", format!("O,{members}!,")),
-        ("584 members of 145", format!("O,{types}!,")),
+        ("list-of-int", "J,D,".to_string()),
+        ("255-labels-ascending", format!("L,+,{ascending}!,")),
+        ("1363-labels-of-256", format!("L,+,{labels}!,")),
+        ("200-entries", format!("K,{small_map}!,")),
+        ("583-entries-refused", format!("K,{large_map}!,")),
+        ("2046-flat-members", format!("O,{members}!,")),
+        ("584-members-of-145", format!("O,{types}!,")),
         (
-            "31 unions of one",
+            "31-unions-of-one",
             "O,".repeat(unions) + "D," + &"!,".repeat(unions),
         ),
     ]
 }
 
-/// Prints the table.
-pub fn run(linked: RegularCall) {
-    println!("old lines: nanoseconds for a line, least of {ROUNDS} rounds");
-    println!(
-        "line                   bytes      library   reference call   reference, no buffers   clearing alone"
-    );
+fn call_turns(call: RegularCall, lines: &Rc<Vec<Vec<u8>>>) -> Turns {
     let (mut work, mut out) = (vec![0; WORK_BYTES], vec![0; REGULAR_OUT_BYTES]);
-    for (name, line) in lines() {
-        let bytes = line.len();
-        assert!(bytes <= OLD_BYTES);
-        let inputs = [line.into_bytes()];
-        let repeat = 1 + 20_000 / bytes;
-        let ours = nanoseconds(&inputs, repeat, |l| {
-            black_box(linked(l, &mut work, &mut out));
-        });
-        let theirs = nanoseconds(&inputs, repeat, |l| {
-            black_box(regular_call(l, &mut work, &mut out));
-        });
-        let plain = nanoseconds(&inputs, repeat, |l| {
-            let _ = black_box(regular_line(l));
-        });
-        let clear = nanoseconds(&inputs, repeat, |_| {
-            black_box(&mut work).fill(0);
-        });
-        println!("{name:<20} {bytes:>7} {ours:>12.0} {theirs:>16.0} {plain:>23.0} {clear:>16.0}");
+    turns(lines, move |line| {
+        black_box(call(line, &mut work, &mut out));
+    })
+}
+
+fn ready(linked: RegularCall, line: &str) -> Ready {
+    assert!(line.len() <= OLD_BYTES);
+    let lines = Rc::new(vec![line.as_bytes().to_vec()]);
+    let plain = turns(&lines, |line| {
+        let _ = black_box(regular_line(line));
+    });
+    Ready {
+        bytes: line.len(),
+        calls: lines.len(),
+        sides: vec![
+            (Side::Library, call_turns(linked, &lines)),
+            (Side::Reference, call_turns(regular_call, &lines)),
+            (Side::Bare, plain),
+        ],
     }
+}
+
+/// A family for each line.
+pub fn families(linked: RegularCall) -> Vec<Family> {
+    let family = |(name, line): (&str, String)| {
+        Family::new(format!("old/{name}"), move || ready(linked, &line))
+    };
+    lines().into_iter().map(family).collect()
 }

@@ -1,5 +1,5 @@
 //! The call that makes an old type line regular, by the reference: number, returned number, and every byte of output and
-//! work area (02, ask 11).
+//! work area (RULES 10.3, ask 11).
 
 use super::made::made;
 use super::read::read_old;

@@ -1,4 +1,4 @@
-//! An old line's regular type (02, ask 11): inner types first, then `Type::union`.
+//! An old line's regular type (RULES 10.3, ask 11): inner types first, then `Type::union`.
 
 use super::tree::{Name, Old};
 use crate::reference::stand_ins::SmolStr;

@@ -1,4 +1,4 @@
-//! What an old line means, with nothing ordered (02, ask 11): "an empty union, also inside another, means Unknown, members,
+//! What an old line means, with nothing ordered (RULES 10.3, ask 11): "an empty union, also inside another, means Unknown, members,
 //! labels and map entries are sets, unions inside unions are opened, a sole member stands for its union". It knows neither
 //! `Type` nor lines: two lines mean the same exactly if these sets are equal.
 

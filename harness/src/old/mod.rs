@@ -1,4 +1,4 @@
-//! Old type lines made regular (02, ask 11): read, made, their meaning, the call, and its comparison with the library.
+//! Old type lines made regular (RULES 10.3, ask 11): read, made, their meaning, the call, and its comparison with the library.
 
 pub mod bench;
 pub mod call;

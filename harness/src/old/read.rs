@@ -1,4 +1,4 @@
-//! Old type lines read (02, ask 11). Free are the order and the repeats of members and labels, the number and the kind of
+//! Old type lines read (RULES 10.3, ask 11). Free are the order and the repeats of members and labels, the number and the kind of
 //! a union's members, and the order of a map's entries; all else is read as strictly as a type line.
 
 use super::tree::{Name, Old, LETTERS};

@@ -102,7 +102,7 @@ impl Old {
         }
     }
 
-    /// 01: one, or one more than the deepest inside.
+    /// RULES 4.6: one, or one more than the deepest inside.
     pub fn nesting(&self) -> usize {
         let deepest = self.inner().into_iter().map(Old::nesting).max();
         1 + deepest.unwrap_or(0)

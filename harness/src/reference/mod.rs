@@ -1,4 +1,4 @@
-//! The reference: the Rust that document 01 names, its logic unchanged, over stand-ins for what is missing.
+//! The reference: the Rust that RULES 1.1 names, its logic unchanged, over stand-ins for what is missing.
 
 pub mod builtins;
 pub mod hir;

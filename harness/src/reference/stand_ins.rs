@@ -1,5 +1,5 @@
 //! Stand-ins for what the reference uses and `docs/src` has no body of: the string type, the ordered map, spans, and
-//! diagnostics as records in push order (01: "here a fault is a report line, in push order").
+//! diagnostics as records in push order (RULES 1.2).
 
 use std::collections::hash_map::{Entry, HashMap};
 use std::fmt;
@@ -130,7 +130,7 @@ impl<K: Hash + Eq + Clone, V> Default for IndexMap<K, V> {
     }
 }
 
-/// A place in a source text; always 0 here (01: "spans (always empty at 0 in infer.rs)").
+/// A place in a source text; always 0 here (RULES 1.2).
 #[derive(Debug, Clone, Copy, PartialEq, Eq)]
 pub struct TextSize(u32);
 

@@ -1,7 +1,7 @@
 // Taken over from the repository phall1/cyrs, commit c44ba5361e, file crates/cyrs-sema/src/unify.rs,
 // licensed Apache-2.0 OR MIT. What was changed:
 // - `SmolStr` is the stand-in of stand_ins.rs, and the paths of the `use` lines follow the folder.
-// - `TypeMismatch::into_diagnostic` is left out (01: left out).
+// - `TypeMismatch::into_diagnostic` is left out (RULES 1.2).
 
 //! Unification engine for the Cypher type system (spec 0001 §7.2).
 //!

@@ -1,4 +1,4 @@
-//! Sheets (01, A sheet enters): read with refusals 3, 4 and 5, and printed.
+//! Sheets (RULES 2): read with refusals 3, 4 and 5, and printed.
 
 mod fields;
 mod print;

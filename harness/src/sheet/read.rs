@@ -1,5 +1,5 @@
 //! The reader: the first line with 3, 4 or 5 decides; on one line word and field count, then the fields from left to right,
-//! then the depth (01, order for a sheet).
+//! then the depth (RULES 7.3, 7.4).
 
 use super::fields::Line;
 use super::{Refused, Sheet};

@@ -1,4 +1,4 @@
-//! Fixed calls on both sides of every limit of ask 11, each with what 02 says of it.
+//! Fixed calls on both sides of every limit of ask 11, each with what RULES 10.3 says of it.
 
 use super::loosened;
 use crate::generate::types::{sized_map, sized_node, Domain, IRREGULAR};
@@ -287,7 +287,7 @@ impl Probes {
         }
     }
 
-    /// 02: "map entries in any order with distinct names".
+    /// RULES 10.3: map entries in any order, their names distinct.
     fn names_twice(&mut self) {
         let many = map_of(50);
         for (line, number) in [

@@ -1,4 +1,4 @@
-//! Fixed cases on both sides of every limit, each with what 01 says of it.
+//! Fixed cases on both sides of every limit, each with what RULES say of it.
 
 mod buffers;
 mod depths;
