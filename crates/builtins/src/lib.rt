@@ -7,6 +7,14 @@ ghost use lib.Seq.{sets};
 ghost use Rattle.semantics.specs.Builtins.{signature, lookup, describe};
 ghost use Rattle.text.specs.Text.{digitOf};
 ghost use Rattle.builtins.specs.Rows.{shapeOf, returnOf, builtinOf, rowOf, RowFor, classOf, acceptsClass, AcceptsKind, SomeFirst, Resolved};
+use ty::ANY;
+use ty::LIST;
+use ty::MAP;
+use ty::NODE;
+use ty::PATH;
+use ty::RELATIONSHIP;
+use ty::STRING;
+use ty::UNKNOWN;
 
 pub struct Row {
     pub name: [u8; 6],
@@ -15,56 +23,80 @@ pub struct Row {
     pub ret: u8,
 }
 
-// Argument shapes are numbered in the Rust's order. Returns: Int, a list of String, a list of Any, the list's element, the list itself.
+// Shapes of an argument (`ArgShape`, in the Rust's order).
+const ANY_TYPE: usize = 0;
+
+const A_LIST: usize = 1;
+
+const A_STRING: usize = 2;
+
+const LIST_OR_STRING: usize = 3;
+
+const ENTITY: usize = 4;
+
+const A_MAP: usize = 5;
+
+const ENTITY_OR_MAP: usize = 6;
+
+// How many shapes there are, and how many classes of types they tell apart.
+const SHAPES: usize = 7;
+
+// What a function returns (`RetShape`): Int, a list of String, a list of Any, the list's element, the list itself.
+const AN_INT: u8 = 0;
+
+const STRINGS: u8 = 1;
+
+const ANY_LIST: u8 = 2;
+
+const ELEMENT: u8 = 3;
+
+const SAME_LIST: u8 = 4;
+
+// How many functions there are, and so the number of none.
+pub const NO_BUILTIN: usize = 7;
+
 const BUILTINS: [Row; 7] = [
-    // id
     Row {
-        name: [105, 100, 0, 0, 0, 0],
+        name: [b'i', b'd', 0, 0, 0, 0],
         len: 2,
-        shape: 4,
-        ret: 0,
+        shape: ENTITY,
+        ret: AN_INT,
     },
-    // size
     Row {
-        name: [115, 105, 122, 101, 0, 0],
+        name: [b's', b'i', b'z', b'e', 0, 0],
         len: 4,
-        shape: 3,
-        ret: 0,
+        shape: LIST_OR_STRING,
+        ret: AN_INT,
     },
-    // head
     Row {
-        name: [104, 101, 97, 100, 0, 0],
+        name: [b'h', b'e', b'a', b'd', 0, 0],
         len: 4,
-        shape: 1,
-        ret: 3,
+        shape: A_LIST,
+        ret: ELEMENT,
     },
-    // tail
     Row {
-        name: [116, 97, 105, 108, 0, 0],
+        name: [b't', b'a', b'i', b'l', 0, 0],
         len: 4,
-        shape: 1,
-        ret: 4,
+        shape: A_LIST,
+        ret: SAME_LIST,
     },
-    // last
     Row {
-        name: [108, 97, 115, 116, 0, 0],
+        name: [b'l', b'a', b's', b't', 0, 0],
         len: 4,
-        shape: 1,
-        ret: 3,
+        shape: A_LIST,
+        ret: ELEMENT,
     },
-    // keys
     Row {
-        name: [107, 101, 121, 115, 0, 0],
+        name: [b'k', b'e', b'y', b's', 0, 0],
         len: 4,
-        shape: 6,
-        ret: 1,
+        shape: ENTITY_OR_MAP,
+        ret: STRINGS,
     },
-    // values
     Row {
-        name: [118, 97, 108, 117, 101, 115],
+        name: [b'v', b'a', b'l', b'u', b'e', b's'],
         len: 6,
-        shape: 5,
-        ret: 2,
+        shape: A_MAP,
+        ret: ANY_LIST,
     },
 ];
 
@@ -81,7 +113,7 @@ pub fn lookup(hex: &[u8]) -> usize
     ensures { λ r. ⌜ r ≡ rowOf (lookup (map digitOf (now (hex .entry)))) ⌝ }
 {
     let mut i = 0;
-    while i < 7 {
+    while i < NO_BUILTIN {
         let row = row_at(i);
         let name = row.name;
         let len = row.len;
@@ -90,7 +122,7 @@ pub fn lookup(hex: &[u8]) -> usize
         }
         i += 1;
     }
-    7
+    NO_BUILTIN
 }
 
 // The shape of a function's one parameter.
@@ -126,14 +158,14 @@ pub fn class_of(k: u8) -> usize
     ensures { λ r. ⌜ (r ≡ classOf k) × (r < 7) ⌝ }
 {
     match k {
-        65 => 0,
-        80 => 0,
-        71 => 1,
-        78 => 2,
-        74 => 3,
-        76 => 4,
-        77 => 4,
-        75 => 5,
+        ANY => 0,
+        UNKNOWN => 0,
+        STRING => 1,
+        PATH => 2,
+        LIST => 3,
+        NODE => 4,
+        RELATIONSHIP => 4,
+        MAP => 5,
         _ => 6,
     }
 }
@@ -144,7 +176,7 @@ pub fn accepts_class(shape: usize, class: usize) -> bool
     ensures { λ r. ⌜ r ≡ acceptsClass (shapeOf shape) class ⌝ }
 {
     let table = b"1111111100100011000001101000101010010000101000110";
-    table[shape * 7 + class] == 49
+    table[shape * SHAPES + class] == b'1'
 }
 
 // Whether a shape accepts the types of kind k.
@@ -161,12 +193,12 @@ pub fn append_shape(out: &mut [u8], fill: usize, shape: usize) -> usize
     ensures { λ r. ⌜ (r ≡ fill + length (describe (shapeOf shape))) × (now (out .exit) ≡ sets (now (out .entry)) fill (describe (shapeOf shape))) ⌝ }
 {
     match shape {
-        0 => text::append(out, fill, b"Any"),
-        1 => text::append(out, fill, b"List"),
-        2 => text::append(out, fill, b"String"),
-        3 => text::append(out, fill, b"List | String"),
-        4 => text::append(out, fill, b"Node | Relationship | Path"),
-        5 => text::append(out, fill, b"Map"),
+        ANY_TYPE => text::append(out, fill, b"Any"),
+        A_LIST => text::append(out, fill, b"List"),
+        A_STRING => text::append(out, fill, b"String"),
+        LIST_OR_STRING => text::append(out, fill, b"List | String"),
+        ENTITY => text::append(out, fill, b"Node | Relationship | Path"),
+        A_MAP => text::append(out, fill, b"Map"),
         _ => text::append(out, fill, b"Node | Relationship | Map"),
     }
 }
@@ -177,7 +209,7 @@ pub fn list_element(part: &mut [u8], len: usize) -> usize
     ensures { λ r. ⌜ Resolved 3 (now (part .entry)) (now (part .exit)) len r ⌝ }
 {
     if len > 0 {
-        if part[0] == 74 {
+        if part[0] == LIST {
             text::copy_in(part, 2, 0, len - 2);
             return len - 2;
         }
@@ -191,7 +223,7 @@ pub fn list_self(part: &mut [u8], len: usize) -> usize
     ensures { λ r. ⌜ Resolved 4 (now (part .entry)) (now (part .exit)) len r ⌝ }
 {
     if len > 0 {
-        if part[0] == 74 {
+        if part[0] == LIST {
             return len;
         }
     }
@@ -204,10 +236,10 @@ pub fn resolve_return(ret: u8, part: &mut [u8], len: usize) -> usize
     ensures { λ r. ⌜ Resolved ret (now (part .entry)) (now (part .exit)) len r ⌝ }
 {
     match ret {
-        0 => text::append(part, 0, b"D,"),
-        1 => text::append(part, 0, b"J,G,"),
-        2 => text::append(part, 0, b"J,A,"),
-        3 => list_element(part, len),
+        AN_INT => text::append(part, 0, b"D,"),
+        STRINGS => text::append(part, 0, b"J,G,"),
+        ANY_LIST => text::append(part, 0, b"J,A,"),
+        ELEMENT => list_element(part, len),
         _ => list_self(part, len),
     }
 }

@@ -1,5 +1,5 @@
--- The limits of document 01, both sides of each, first part: fields, lines, depth ("A sheet enters"; causes 3, 4, 5).
--- One test over one list, by computation. The expected values are 01's, reasoned out and not copied from the definitions.
+-- The limits of RULES 2, both sides of each, first part: fields, lines, depth (RULES 2.2, 2.3, 2.10, 7.4, 7.5; causes 3, 4, 5).
+-- The expected values are those of RULES, reasoned out and not copied from the definitions.
 use mathlib.Core.List.{List, [], _∷_, _++_, map}
 use Rattle.semantics.specs.Bytes.{text}
 use Rattle.semantics.proofs.Cases.{Case, reports, refuses}

@@ -1,4 +1,4 @@
--- The limits of document 01, last part: long sheets, with as many bytes, lines and children as there may be. Three lists, since one
+-- The limits of RULES 2.2 and 7.2, last part: long sheets, with as many bytes, lines and children as there may be. Three lists, since one
 -- computation may not take as long as all three.
 use mathlib.Core.List.{List, [], _∷_, _++_}
 use Rattle.semantics.specs.Bytes.{Bytes, text}

@@ -1,5 +1,5 @@
--- The limits of document 01, second part: sizes of types, where a refusal with 6 falls, buffers (causes 1, 2, 6, 7, 9).
--- Too large is over 1,024 bytes or nesting over 32 (01, "Type lines").
+-- The limits of RULES 4.6 and 7.2, second part: sizes of types, where a refusal with 6 falls, buffers (causes 1, 2, 6, 7, 9).
+-- Too large is over 1,024 bytes or nesting over 32 (RULES 4.6).
 use mathlib.Core.List.{List, [], _∷_, _++_}
 use Rattle.semantics.specs.Bytes.{Bytes, text}
 use Rattle.semantics.proofs.Cases.{Case, typed, unified, wrote, zeroed, as-lent}
@@ -162,7 +162,7 @@ unifyCases =
 
 -- ## Buffers, and which cause comes first
 
--- 01's example, whose report has 25 bytes
+-- the example of RULES 6.3, whose report has 25 bytes
 abbrev pub example : Bytes
 example = text "cyrs,1\nb,1,N\nret,0,1\npro,-\nbin,0\nint,1\nbool,1\nend\n"
 

@@ -1,5 +1,5 @@
--- Document 01's walk, each rule at least once: words, faults, built-ins, the arms of `unify`, the strict reader of type lines
--- (01, "The walk" and "Type lines"; infer.rs, unify.rs, ty.rs, builtins.rs).
+-- The walk, each rule at least once: words, faults, built-ins, the arms of `unify`, the strict reader of type lines
+-- (RULES 3, 4 and 5; infer.rs, unify.rs, ty.rs, builtins.rs).
 use mathlib.Core.List.{List, [], _∷_, _++_, map}
 use Prim.Native.String.{String}
 use Rattle.semantics.specs.Bytes.{text}

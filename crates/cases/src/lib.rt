@@ -1,4 +1,4 @@
-// The calls at every rule and at both sides of every limit of document 01: some 1,300 cases, computed. The lists are in specs/; this
+// The calls at every rule and at both sides of every limit: some 1,300 cases, computed. The lists are in specs/; this
 // function promises that the definitions answer as they say. They stand apart from `semantics`, so that its must-fail edits need not
 // compute them all.
 ghost use Rattle.cases.specs.Held.{CasesHold};

@@ -1,4 +1,4 @@
--- The type catalogue (02, ask 12): a plain list of live types, the bytes of the store that hold it, and the calls on either.
+-- The type catalogue (RULES 10.4, ask 12): a plain list of live types, the bytes of the store that hold it, and the calls on either.
 use mathlib.Core.Path.{_≡_}
 use mathlib.Core.List.{List, [], _∷_, _++_}
 use mathlib.Core.Option.{Option, none, some}
@@ -205,7 +205,7 @@ callBy s (some c) a = let r = call c a in record { told = r .0; store = stored (
 unfoldable pub storeCall : Bytes → Ask → Kept
 storeCall s a = callBy s (readStore s) a
 
--- where the line of a number stands in the store, "as that part of the store"; 0 if none has it (01: unused returned numbers are 0)
+-- where the line of a number stands in the store, "as that part of the store"; 0 if none has it (RULES 7.8)
 unfoldable pub linePlace : ℕ → ℕ → List Live → ℕ
 linePlace n at [] = 0
 linePlace n at (l ∷ ls) = elim (eqb n (l .number)) [ true ↦ at + 8 | false ↦ linePlace n (at + 8 + length (l .text)) ls ]

@@ -1,4 +1,4 @@
-// The type catalogue (02, ask 12): enter, release and look up types in a lent store.
+// The type catalogue (RULES 10.4, ask 12): enter, release and look up types in a lent store.
 mod find;
 mod form;
 mod number;
@@ -53,12 +53,12 @@ fn enter_old(store: &mut [u8], at: usize) -> Call
 {
     let uses = bytes32(store, at + 4);
     if uses >= USES_LIMIT {
-        return refuse(14, 0);
+        return refuse(semantics::COUNT_USED_UP, 0);
     }
     let number = bytes16(store, at);
     put32(store, at + 4, uses + 1);
     Call {
-        number: 0,
+        number: semantics::ACCEPTED,
         first: number as u64,
         second: (uses + 1) as u64,
     }
@@ -81,14 +81,14 @@ fn enter_new(store: &mut [u8], line: &[u8], last: usize, end: usize) -> Call
     ensures { λ r. ⌜ ((c : Catalogue) → Open (now (store .entry)) c → last ≡ c .last → end ≡ 8 + taken (c .live) → keptBy r (now (store .exit)) ≡ keptOf (enterNew c (now (line .entry)))) ⌝ }
 {
     if last >= NUMBER_LIMIT {
-        return refuse(14, 0);
+        return refuse(semantics::COUNT_USED_UP, 0);
     }
     if store.len() - end < line.len() + 8 {
-        return refuse(13, 0);
+        return refuse(semantics::STORE_FULL, 0);
     }
     add(store, line, last + 1, end);
     Call {
-        number: 0,
+        number: semantics::ACCEPTED,
         first: (last + 1) as u64,
         second: 1,
     }
@@ -99,7 +99,7 @@ fn enter_line(store: &mut [u8], line: &[u8], last: usize, end: usize) -> Call
     ensures { λ r. ⌜ keptBy r (now (store .exit)) ≡ storeCall (now (store .entry)) (entering (now (line .entry))) ⌝ }
 {
     if !ty::is_type_line(line) {
-        return refuse(8, 1);
+        return refuse(semantics::NO_TYPE_LINE, 1);
     }
     match find_text(store, 8, end, line) {
         Spot::At(at) => enter_old(store, at),
@@ -112,7 +112,7 @@ pub fn enter(store: &mut [u8], line: &[u8]) -> Call
     ensures { λ r. ⌜ keptBy r (now (store .exit)) ≡ storeCall (now (store .entry)) (entering (now (line .entry))) ⌝ }
 {
     match check(store) {
-        Checked::Bad => refuse(2, 0),
+        Checked::Bad => refuse(semantics::WRONG_SIZE, 0),
         Checked::Is { last, end } => enter_line(store, line, last, end),
     }
 }
@@ -136,14 +136,14 @@ fn release_at(store: &mut [u8], at: usize, end: usize) -> Call
     if uses == 1 {
         remove(store, at, end);
         return Call {
-            number: 0,
+            number: semantics::ACCEPTED,
             first: 0,
             second: 0,
         };
     }
     put32(store, at + 4, uses - 1);
     Call {
-        number: 0,
+        number: semantics::ACCEPTED,
         first: (uses - 1) as u64,
         second: 0,
     }
@@ -155,7 +155,7 @@ fn release_number(store: &mut [u8], number: u64, end: usize) -> Call
 {
     match find_number(store, 8, end, number) {
         Spot::At(at) => release_at(store, at, end),
-        Spot::Nothing => refuse(15, 0),
+        Spot::Nothing => refuse(semantics::NOT_LIVE, 0),
     }
 }
 
@@ -164,7 +164,7 @@ pub fn release(store: &mut [u8], number: u64) -> Call
     ensures { λ r. ⌜ keptBy r (now (store .exit)) ≡ storeCall (now (store .entry)) (releasing number) ⌝ }
 {
     match check(store) {
-        Checked::Bad => refuse(2, 0),
+        Checked::Bad => refuse(semantics::WRONG_SIZE, 0),
         Checked::Is { last, end } => release_number(store, number, end),
     }
 }
@@ -194,7 +194,7 @@ fn line_at(store: &[u8], at: usize) -> Line
         × (r .at ≡ at + 8) ⌝ }
 {
     Line {
-        number: 0,
+        number: semantics::ACCEPTED,
         at: at + 8,
         end: next_entry(store, at),
         uses: bytes32(store, at + 4) as u64,
@@ -207,7 +207,7 @@ fn line_number(store: &[u8], number: u64, end: usize) -> Line
 {
     match find_number(store, 8, end, number) {
         Spot::At(at) => line_at(store, at),
-        Spot::Nothing => no_line(15),
+        Spot::Nothing => no_line(semantics::NOT_LIVE),
     }
 }
 
@@ -216,7 +216,7 @@ pub fn find_line(store: &[u8], number: u64) -> Line
     ensures { λ r. ⌜ Looked (now (store .entry)) number r ⌝ }
 {
     match check(store) {
-        Checked::Bad => no_line(2),
+        Checked::Bad => no_line(semantics::WRONG_SIZE),
         Checked::Is { last, end } => line_number(store, number, end),
     }
 }

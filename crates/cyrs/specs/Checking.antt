@@ -1,4 +1,4 @@
--- The validation of a sheet by itself (01, its table: causes 1, 3, 4 and 5).
+-- The validation of a sheet by itself (RULES 7.10: causes 1, 3, 4 and 5).
 use mathlib.Core.Bool.{true, false}
 use Prim.Native.Nat.{ℕ}
 use lib.ListN.{length}

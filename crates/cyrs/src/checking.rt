@@ -13,14 +13,14 @@ pub fn check_sheet(sheet: &[u8]) -> Checked
 {
     if sheet.len() > semantics::SHEET_LIMIT {
         return Checked {
-            number: 1,
+            number: semantics::SHEET_TOO_LONG,
             place: 0,
         };
     }
     let o = hir::check_sheet(sheet, semantics::DEPTH_LIMIT);
-    if o.why == 0 {
+    if o.why == semantics::ACCEPTED {
         return Checked {
-            number: 0,
+            number: semantics::ACCEPTED,
             place: 0,
         };
     }

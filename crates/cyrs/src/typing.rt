@@ -41,7 +41,7 @@ fn type_sheet(sheet: &[u8], work: &mut [u8], out: &mut [u8]) -> Call
 {
     let o = hir::check_sheet(sheet, semantics::DEPTH_LIMIT);
     let line = o.line;
-    if o.why != 0 {
+    if o.why != semantics::ACCEPTED {
         return refusal(o.why, line.0 as u64);
     }
     let c = Cur { at: o.to, line };
@@ -49,15 +49,15 @@ fn type_sheet(sheet: &[u8], work: &mut [u8], out: &mut [u8]) -> Call
     match r {
         Report::Made(n) => {
             if n > out.len() {
-                return refusal(7, 0);
+                return refusal(semantics::OUTPUT_TOO_SHORT, 0);
             }
             Call {
-                number: 0,
+                number: semantics::ACCEPTED,
                 first: n as u64,
                 second: 0,
             }
         }
-        Report::TooLarge(l) => refusal(6, l.0 as u64),
+        Report::TooLarge(l) => refusal(semantics::TYPE_TOO_LARGE, l.0 as u64),
     }
 }
 
@@ -67,14 +67,14 @@ pub fn infer_types(sheet: &[u8], work: &mut [u8], out: &mut [u8]) -> Call
         ≡ sheetCall (now (sheet .entry)) (now (work .entry)) (now (out .entry)) ⌝ }
 {
     if sheet.len() > semantics::SHEET_LIMIT {
-        return refusal(1, 0);
+        return refusal(semantics::SHEET_TOO_LONG, 0);
     }
     if work.len() != semantics::WORK_SIZE {
-        return refusal(2, 0);
+        return refusal(semantics::WRONG_SIZE, 0);
     }
     let c = type_sheet(sheet, work, out);
     text::clear(work);
-    if c.number == 0 {
+    if c.number == semantics::ACCEPTED {
         return c;
     }
     text::clear(out);

@@ -23,7 +23,7 @@ fn deliver(work: &[u8], mark: usize, u: Unified, out: &mut [u8]) -> Call
         Unified::Done(e) => {
             let n = text::append(out, 0, &work[mark..e]);
             Call {
-                number: 0,
+                number: semantics::ACCEPTED,
                 first: n as u64,
                 second: 0,
             }
@@ -32,13 +32,13 @@ fn deliver(work: &[u8], mark: usize, u: Unified, out: &mut [u8]) -> Call
             let n = text::append(out, 0, &work[a..ae]);
             let m = text::append(out, n, &work[b..be]);
             Call {
-                number: 9,
+                number: semantics::MISMATCH,
                 first: n as u64,
                 second: (m - n) as u64,
             }
         }
         Unified::TooLarge => Call {
-            number: 6,
+            number: semantics::TYPE_TOO_LARGE,
             first: 0,
             second: 0,
         },
@@ -53,21 +53,21 @@ fn solve(a: &[u8], b: &[u8], work: &mut [u8], out: &mut [u8]) -> Call
 {
     if out.len() < semantics::UNIFY_OUTPUT {
         return Call {
-            number: 7,
+            number: semantics::OUTPUT_TOO_SHORT,
             first: 0,
             second: 0,
         };
     }
     if !ty::is_type_line(a) {
         return Call {
-            number: 8,
+            number: semantics::NO_TYPE_LINE,
             first: 1,
             second: 0,
         };
     }
     if !ty::is_type_line(b) {
         return Call {
-            number: 8,
+            number: semantics::NO_TYPE_LINE,
             first: 2,
             second: 0,
         };
@@ -85,7 +85,7 @@ pub fn unify_types(a: &[u8], b: &[u8], work: &mut [u8], out: &mut [u8]) -> Call
 {
     if work.len() != semantics::WORK_SIZE {
         return Call {
-            number: 2,
+            number: semantics::WRONG_SIZE,
             first: 0,
             second: 0,
         };
@@ -94,8 +94,8 @@ pub fn unify_types(a: &[u8], b: &[u8], work: &mut [u8], out: &mut [u8]) -> Call
     text::clear(work);
     let number = c.number;
     match number {
-        0 => c,
-        9 => c,
+        semantics::ACCEPTED => c,
+        semantics::MISMATCH => c,
         _ => {
             text::clear(out);
             c

@@ -1,5 +1,5 @@
 -- The claim is not empty, computed from bytes: its premises hold of pairs with each of the three outcomes, and with unions its equation
--- fails (01's case 13).
+-- fails (RULES 9.2, case 13).
 use mathlib.Core.Path.{_≡_, refl, sym, _∙_, ap}
 use mathlib.Core.List.{[], _∷_, _++_}
 use mathlib.Core.Option.{Option, none, some}

@@ -1,4 +1,4 @@
--- Unification from either side: the statement (02, ask 7). What is claimed is about `unifyCall`: number, returned numbers and every byte
+-- Unification from either side: the statement (RULES 10.2, ask 7). What is claimed is about `unifyCall`: number, returned numbers and every byte
 -- of work area and output.
 use mathlib.Core.Path.{_≡_}
 use mathlib.Core.List.{_++_}
@@ -27,7 +27,7 @@ unfoldable mutual
   unionFreeF ∅ᶠ = true
   unionFreeF (field n t fs) = unionFree t && unionFreeF fs
 
--- expected and actual change places: their lengths, and their texts at the front of the output (01's table, cause 9)
+-- expected and actual change places: their lengths, and their texts at the front of the output (RULES 7.2, cause 9)
 abbrev pub turned : Settled → Settled
 turned s =
     record {
@@ -42,7 +42,7 @@ turned s =
 unfoldable pub exchanged : Settled → Settled
 exchanged s = elim (eqb (s .number) 9) [ true ↦ turned s | false ↦ s ]
 
--- buffers that earn neither 2 nor 7 (01's table)
+-- buffers that earn neither 2 nor 7 (RULES 7.6)
 unfoldable pub enough : Bytes → Bytes → Bool
 enough work out = eqb (length work) workSize && not (ltb (length out) unifyOutput)
 

@@ -14,6 +14,7 @@ use crate::Ended;
 use crate::front::put_letter;
 use kept::St;
 use report::Tally;
+use ty::ANY;
 
 // The first argument, if there is one, against the one parameter.
 fn check_builtin_args(row: usize, len: usize, work: &[u8], out: &mut [u8], tally: Tally) -> Tally
@@ -35,9 +36,9 @@ pub fn end_call(name: &[u8], st: St, work: &mut [u8], out: &mut [u8], tally: Tal
     ensures { λ r. ⌜ ((a : Option Ty) → KeptAt (argKept a) (now (work .entry)) st → Ends (told (callType (lookup (map digitOf (now (name .entry)))) (argsOf (argKept a))) (callFaults (lookup (map digitOf (now (name .entry)))) (argsOf (argKept a)))) (now (work .entry)) (now (work .exit)) (now (out .entry)) (now (out .exit)) tally r) ⌝ }
 {
     let row = builtins::lookup(name);
-    if row == 7 {
+    if row == builtins::NO_BUILTIN {
         return Ended::Typed {
-            len: put_letter(work, 65),
+            len: put_letter(work, ANY),
             tally,
         };
     }

@@ -14,19 +14,21 @@ use crate::front::put_letter;
 use crate::front::put_pair;
 use kept::St;
 use report::Tally;
+use ty::ANY;
 use ty::Grown;
+use ty::LIST;
 
 // The element of a list, else Any.
 pub fn end_element(st: St, work: &mut [u8]) -> usize
     requires { ⌜ SomeOne (now work) st ⌝ }
     ensures { λ r. ⌜ (length (now (work .exit)) ≡ length (now (work .entry))) × ((t : Ty) → KeptAt (kept t) (now (work .entry)) st → TypeAt (now (work .exit)) 0 r (elementOf t)) ⌝ }
 {
-    if work[0] == 74 {
+    if work[0] == LIST {
         let n = st.len - 2;
         text::copy_in(work, 2, 0, n);
         return n;
     }
-    put_letter(work, 65)
+    put_letter(work, ANY)
 }
 
 // The list itself, else Any.
@@ -34,10 +36,10 @@ pub fn end_slice(st: St, work: &mut [u8]) -> usize
     requires { ⌜ SomeOne (now work) st ⌝ }
     ensures { λ r. ⌜ (length (now (work .exit)) ≡ length (now (work .entry))) × ((t : Ty) → KeptAt (kept t) (now (work .entry)) st → TypeAt (now (work .exit)) 0 r (listOr (base tAny) t)) ⌝ }
 {
-    if work[0] == 74 {
+    if work[0] == LIST {
         return st.len;
     }
-    put_letter(work, 65)
+    put_letter(work, ANY)
 }
 
 // A list literal: with no item its element is Any.
@@ -46,7 +48,7 @@ pub fn end_list(st: St, work: &mut [u8]) -> usize
     ensures { λ r. ⌜ (length (now (work .exit)) ≡ length (now (work .entry))) × ((e : Option Ty) → KeptAt (items e) (now (work .entry)) st → (t : Ty) → endList (items e) ≡ told t [] → TypeAt (now (work .exit)) 0 r t) ⌝ }
 {
     if st.len == 2 {
-        return put_pair(work, 74, 65);
+        return put_pair(work, LIST, ANY);
     }
     st.len
 }

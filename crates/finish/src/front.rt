@@ -9,6 +9,13 @@ ghost use Rattle.ty.specs.Parts.{TypeAt};
 ghost use Rattle.finish.specs.End.{Puts, Settles};
 use crate::Ended;
 use report::Tally;
+use text::COMMA;
+use ty::ANY;
+use ty::BOOL;
+use ty::CLOSE;
+use ty::NODE;
+use ty::PATH;
+use ty::RELATIONSHIP;
 
 // A type of one letter at the front.
 pub fn put_letter(work: &mut [u8], a: u8) -> usize
@@ -16,7 +23,7 @@ pub fn put_letter(work: &mut [u8], a: u8) -> usize
     ensures { λ r. ⌜ Puts (a ∷ 44 ∷ []) (now (work .entry)) (now (work .exit)) r ⌝ }
 {
     work[0] = a;
-    work[1] = 44;
+    work[1] = COMMA;
     2
 }
 
@@ -26,11 +33,18 @@ pub fn put_pair(work: &mut [u8], a: u8, b: u8) -> usize
     ensures { λ r. ⌜ Puts (a ∷ 44 ∷ b ∷ 44 ∷ []) (now (work .entry)) (now (work .exit)) r ⌝ }
 {
     work[0] = a;
-    work[1] = 44;
+    work[1] = COMMA;
     work[2] = b;
-    work[3] = 44;
+    work[3] = COMMA;
     4
 }
+
+// Kinds of bindings (`VarKind`); any other is a value's, or none.
+const NODE_KIND: u64 = 0;
+
+const RELATIONSHIP_KIND: u64 = 1;
+
+const PATH_KIND: u64 = 2;
 
 // The type of a variable by the kind of its binding (`var_type`).
 pub fn var_type(kind: u64, work: &mut [u8]) -> usize
@@ -38,10 +52,10 @@ pub fn var_type(kind: u64, work: &mut [u8]) -> usize
     ensures { λ r. ⌜ TypeAt (now (work .exit)) 0 r (kindType kind) × (length (now (work .exit)) ≡ length (now (work .entry))) ⌝ }
 {
     match kind {
-        0 => put_pair(work, 76, 33),
-        1 => put_pair(work, 77, 33),
-        2 => put_letter(work, 78),
-        _ => put_letter(work, 65),
+        NODE_KIND => put_pair(work, NODE, CLOSE),
+        RELATIONSHIP_KIND => put_pair(work, RELATIONSHIP, CLOSE),
+        PATH_KIND => put_letter(work, PATH),
+        _ => put_letter(work, ANY),
     }
 }
 
@@ -51,7 +65,7 @@ pub fn is_bool(work: &mut [u8], tally: Tally) -> Ended
     ensures { λ r. ⌜ Settles (base tBool) (now (work .entry)) (now (work .exit)) tally r ⌝ }
 {
     Ended::Typed {
-        len: put_letter(work, 67),
+        len: put_letter(work, BOOL),
         tally,
     }
 }

@@ -9,6 +9,10 @@ use crate::Ended;
 use crate::front::is_bool;
 use kept::St;
 use report::Tally;
+use ty::ANY;
+use ty::LIST;
+use ty::NULL;
+use ty::UNKNOWN;
 use unify::Unified;
 
 // A mismatch is a fault where neither side is open.
@@ -54,9 +58,9 @@ fn lets_in(kind: u8) -> bool
     ensures { λ r. ⌜ LetsIn kind r ⌝ }
 {
     match kind {
-        65 => true,
-        66 => true,
-        80 => true,
+        ANY => true,
+        NULL => true,
+        UNKNOWN => true,
         _ => false,
     }
 }
@@ -67,12 +71,12 @@ pub fn check_in_list(st: St, work: &mut [u8], out: &mut [u8], tally: Tally) -> E
 {
     let k = st.len;
     let b = work[k];
-    if b == 74 {
+    if b == LIST {
         return in_list(st, work, out, tally);
     }
     if lets_in(b) {
         return is_bool(work, tally);
     }
-    let c = report::fault(out, tally, 2013, b);
+    let c = report::fault(out, tally, report::E2013, b);
     is_bool(work, c)
 }

@@ -15,15 +15,20 @@ use crate::front::put_letter;
 use crate::front::put_pair;
 use kept::St;
 use report::Tally;
+use ty::ANY;
+use ty::UNKNOWN;
 use unify::Unified;
 
-// A unary operator: 0 is `Neg`, 1 is `Not`.
+// The unary operator that asks for a number (`UnaryOp::Neg`); the other is `Not`.
+const NEG: u64 = 0;
+
+// A unary operator.
 pub fn infer_unaryop(num: u64, work: &mut [u8], out: &mut [u8], tally: Tally, st: St) -> Ended
     requires { ⌜ SomeOne (now work) st × Countable tally ⌝ }
     ensures { λ r. ⌜ ((t : Ty) → KeptAt (kept t) (now (work .entry)) st → Ends (told (unaryType num t) (unaryFaults num t)) (now (work .entry)) (now (work .exit)) (now (out .entry)) (now (out .exit)) tally r) ⌝ }
 {
     let a = work[0];
-    if num == 0 {
+    if num == NEG {
         let c = report::require_numeric(a, out, tally);
         return Ended::Typed {
             len: put_letter(work, report::numeric(a)),
@@ -52,7 +57,7 @@ fn arithmetic(work: &mut [u8], a: u8, b: u8, tally: Tally) -> Ended
             b: _,
             be: _,
         } => Ended::Typed {
-            len: put_letter(work, 80),
+            len: put_letter(work, UNKNOWN),
             tally,
         },
         Unified::TooLarge => Ended::Large,
@@ -78,17 +83,41 @@ fn comparison(st: St, work: &mut [u8], tally: Tally) -> Ended
     }
 }
 
-// The operator's kind: 0 arithmetic, 1 equality, 2 comparison, 3 boolean, 4 string, 5 concatenation.
+// Kinds of operators. The first operators of each, in the order of the Rust's `BinOp`: six of arithmetic, `Eq`, `Lt`, `And`, `StartsWith`,
+// and `Concat` alone.
+const ARITHMETIC: usize = 0;
+
+const EQUALITY: usize = 1;
+
+const COMPARISON: usize = 2;
+
+const BOOLEAN: usize = 3;
+
+const STRINGS: usize = 4;
+
+const CONCATENATION: usize = 5;
+
+const EQ: u64 = 6;
+
+const LT: u64 = 8;
+
+const AND: u64 = 12;
+
+const STARTS_WITH: u64 = 15;
+
+const CONCAT: u64 = 19;
+
+// The operator's kind.
 fn op_kind(num: u64) -> usize
     ensures { λ r. ⌜ r ≡ opNumber (op num) ⌝ }
 {
-    if num < 8 {
-        return if num < 6 { 0 } else { 1 };
+    if num < LT {
+        return if num < EQ { ARITHMETIC } else { EQUALITY };
     }
-    if num < 15 {
-        return if num < 12 { 2 } else { 3 };
+    if num < STARTS_WITH {
+        return if num < AND { COMPARISON } else { BOOLEAN };
     }
-    if num < 19 { 4 } else { 5 }
+    if num < CONCAT { STRINGS } else { CONCATENATION }
 }
 
 fn two_numbers(a: u8, b: u8, out: &mut [u8], tally: Tally) -> Tally
@@ -125,22 +154,22 @@ pub fn infer_binop(num: u64, st: St, work: &mut [u8], out: &mut [u8], tally: Tal
     let b = work[k];
     let kind = op_kind(num);
     match kind {
-        0 => {
+        ARITHMETIC => {
             let c = two_numbers(a, b, out, tally);
             arithmetic(work, a, b, c)
         }
-        1 => is_bool(work, tally),
-        2 => comparison(st, work, tally),
-        3 => {
+        EQUALITY => is_bool(work, tally),
+        COMPARISON => comparison(st, work, tally),
+        BOOLEAN => {
             let c = two_bools(a, b, out, tally);
             is_bool(work, c)
         }
-        4 => {
+        STRINGS => {
             let c = two_strings(a, b, out, tally);
             is_bool(work, c)
         }
         _ => Ended::Typed {
-            len: put_letter(work, 65),
+            len: put_letter(work, ANY),
             tally,
         },
     }

@@ -11,16 +11,17 @@ use lib.ListN.{length, getD, drop, length-drop}
 use lib.Seq.{getD-drop, drop-drop}
 use borrow.Author.Tests.{eq-eqb, ne-eqb, eqb-true, leb-true}
 use Rattle.semantics.specs.Bytes.{Bytes, front, split}
-use Rattle.semantics.specs.Sheet.{Head, num, variableOf, rank, place, Want, clauses, fits, beyond, under}
+use Rattle.semantics.specs.Sheet.{Head, num, variableOf, number, lettered, rank, place, Want, clauses, fits, beyond, under}
 use Rattle.semantics.specs.Walk.{kindType, varTypeIn, binds, boundBy, bound}
 use Rattle.hir.specs.Check.{Laid}
 use Rattle.hir.specs.declared.valid.Outline.{Outline}
-use Rattle.line.specs.Line.{HeadIs, ReadAs}
-use Rattle.line.specs.declared.line.Head.{Head as Seen}
+use Rattle.line.specs.Known.{BindingAt, BoundAs}
+use Rattle.line.specs.declared.known.Bound.{Bound}
 use Rattle.line.proofs.LineLaws.{split-some}
+use Rattle.line.proofs.KnownLaws.{same-place}
 use Rattle.hir.specs.Lines.{LineAt, Lines, no-line, a-line, Met, meets, Ascends, no-binding, ascends}
 use Rattle.hir.specs.Bind.{kindOf, BindsAt, StartAs}
-use Rattle.hir.proofs.LinesLaws.{same-place, next-line, front-some, read-at, bind-var}
+use Rattle.hir.proofs.LinesLaws.{next-line, front-some, bind-var}
 
 -- ## Bytes of a line
 
@@ -150,6 +151,7 @@ kind-over h hs v e = rw (ne-eqb v (variableOf h) e, kindOf)
 pub record Parts (u : ℕ) (left : List Head) (h : Head) (right : List Head) (w : ℕ) : Type 0 where
   pub mid : ℕ
   pub first : Ascends u left mid
+  pub is : rank (place h) ≡ 1
   pub upto : mid ≤ variableOf h
   pub later : Ascends (suc (variableOf h)) right w
 
@@ -159,11 +161,11 @@ parts no-binding (x ∷ left) h right e = absurd (let z : _≡_ {A = ℕ} 0 1 = 
 parts {u = u} {w = w} (ascends {h = k} {hs = ks} o l x) [] h right e =
     let kh : k ≡ h = cc in
     let r : ks ≡ right = cc in
-    record { mid = u; first = no-binding; upto = rw (← kh) l; later = rw (← kh, ← r) x }
+    record { mid = u; first = no-binding; is = rw (← kh) o; upto = rw (← kh) l; later = rw (← kh, ← r) x }
 parts {u = u} {w = w} (ascends {h = k} {hs = ks} o l x) (y ∷ left) h right e =
     let ky : k ≡ y = cc in
     let p = parts x left h right cc in
-    record { mid = p .mid; first = subst (λ (z : Head). Ascends u (z ∷ left) (p .mid)) ky (ascends o l (p .first)); upto = p .upto; later = p .later }
+    record { mid = p .mid; first = subst (λ (z : Head). Ascends u (z ∷ left) (p .mid)) ky (ascends o l (p .first)); is = p .is; upto = p .upto; later = p .later }
 
 lines-up : {s : Bytes} {p q : ℕ} {hs : List Head} → Lines s p hs q → p ≤ q
 lines-up no-line = omega arith
@@ -193,46 +195,54 @@ pub find-start : (s : Bytes) (from to v : ℕ) → BindsAt s from to → FindInv
 find-start s from to v q =
     record { inside = q .inside; each = λ b. record { mid = b .heads; low = 0; top = b .top; lines = b .lines; ascending = b .ascending; same = refl } }
 
-module _ (s : Bytes) (v : ℕ) (hs : List Head) (lo hi : ℕ) (f : FindAt s v hs lo hi) (mid r : ℕ) (st : StartAs s lo mid r) (m : mid < hi) (k : Seen) (x : ReadAs s r k (split 10 (drop r s))) where
+module _ (s : Bytes) (v : ℕ) (hs : List Head) (lo hi : ℕ) (f : FindAt s v hs lo hi) (mid r : ℕ) (st : StartAs s lo mid r) (m : mid < hi) where
   a : Among s lo (f .mid) hi r mid
   a = among (f .lines) mid r st m
 
   p : Parts (f .low) (a .left) (a .head) (a .right) (f .top)
   p = parts (f .ascending) (a .left) (a .head) (a .right) (a .same)
 
-  is : HeadIs s k (a .head) × (k .next ≡ a .end)
-  is = read-at s r (a .end) (a .head) k (a .line) x
+  -- the line that holds the byte is a binding's
+  pub found-binding : BindingAt s r
+  found-binding = record { head = a .head; next = a .end; line = a .line; first = p .is }
 
-  pub found-hit : k .var .0 ≡ v → k .num ≡ kindOf v hs
-  found-hit e =
-      is .0 .num
-      ∙ sym (f .same ∙ ap (kindOf v) (a .same) ∙ kind-past (p .first) v (a .head ∷ a .right) (omega (arith, p .upto, is .0 .var)) ∙ kind-hit (a .head) (a .right) v (sym e ∙ is .0 .var))
+  module _ (k : Bound) (x : (b : BindingAt s r) → BoundAs s (b .head) (b .next) k) where
+    is : BoundAs s (a .head) (a .end) k
+    is = x (record { head = a .head; next = a .end; line = a .line; first = p .is })
 
-  pub found-lower : k .var .0 < v → FindAt s v hs (k .next) hi
-  found-lower l =
-      record {
-        mid = a .right;
-        low = suc (variableOf (a .head));
-        top = f .top;
-        lines = subst (λ (z : ℕ). Lines s z (a .right) hi) (sym (is .1)) (a .after);
-        ascending = p .later;
-        same = f .same ∙ ap (kindOf v) (a .same) ∙ kind-past (p .first) v (a .head ∷ a .right) (omega (arith, p .upto, is .0 .var)) ∙ kind-over (a .head) (a .right) v (λ e. omega (arith, is .0 .var));
-      }
+    pub found-letter : k .end + 1 < length s
+    found-letter = omega (arith, is .next, a .line .inside)
 
-  pub found-higher : v < k .var .0 → FindAt s v hs lo r
-  found-higher l =
-      let h : v < variableOf (a .head) = omega (arith, is .0 .var) in
-      record {
-        mid = a .left;
-        low = f .low;
-        top = p .mid;
-        lines = a .before;
-        ascending = p .first;
-        same = f .same ∙ ap (kindOf v) (a .same) ∙ kind-left (a .left) (a .head ∷ a .right) v (kind-over (a .head) (a .right) v (λ e. omega arith) ∙ kind-none (p .later) v (omega arith));
-      }
+    pub found-hit : k .var .0 ≡ v → (n : ℕ) → ((m : ℕ) → lettered (getD s (k .end + 1) 0 ∷ []) ≡ number m → n ≡ m) → n ≡ kindOf v hs
+    found-hit e n g =
+        g (num (a .head) 0) (is .kind)
+        ∙ sym (f .same ∙ ap (kindOf v) (a .same) ∙ kind-past (p .first) v (a .head ∷ a .right) (omega (arith, p .upto, is .var)) ∙ kind-hit (a .head) (a .right) v (sym e ∙ is .var))
 
-  pub found-on : (lo < k .next) × (k .next ≤ hi)
-  found-on = (omega (arith, is .1, a .line .on, st .from), omega (arith, is .1, lines-up (a .after)))
+    pub found-lower : k .var .0 < v → FindAt s v hs (k .end + 3) hi
+    found-lower l =
+        record {
+          mid = a .right;
+          low = suc (variableOf (a .head));
+          top = f .top;
+          lines = subst (λ (z : ℕ). Lines s z (a .right) hi) (sym (is .next)) (a .after);
+          ascending = p .later;
+          same = f .same ∙ ap (kindOf v) (a .same) ∙ kind-past (p .first) v (a .head ∷ a .right) (omega (arith, p .upto, is .var)) ∙ kind-over (a .head) (a .right) v (λ e. omega (arith, is .var));
+        }
+
+    pub found-higher : v < k .var .0 → FindAt s v hs lo r
+    found-higher l =
+        let h : v < variableOf (a .head) = omega (arith, is .var) in
+        record {
+          mid = a .left;
+          low = f .low;
+          top = p .mid;
+          lines = a .before;
+          ascending = p .first;
+          same = f .same ∙ ap (kindOf v) (a .same) ∙ kind-left (a .left) (a .head ∷ a .right) v (kind-over (a .head) (a .right) v (λ e. omega arith) ∙ kind-none (p .later) v (omega arith));
+        }
+
+    pub found-on : (lo < k .end + 3) × (k .end + 3 ≤ hi)
+    found-on = (omega (arith, is .next, a .line .on, st .from), omega (arith, is .next, lines-up (a .after)))
 
 pub found-none : (s : Bytes) (v : ℕ) (hs : List Head) (lo hi : ℕ) → FindAt s v hs lo hi → hi ≤ lo → 3 ≡ kindOf v hs
 found-none s v hs lo hi f l = sym (f .same ∙ no-lines (f .lines) l v)

@@ -288,7 +288,7 @@ bits-small zero b h l = omega arith
 bits-small (suc zero) b h l = omega arith
 bits-small (suc (suc a)) b h l = absurd (omega arith)
 
-no-size : (c f : ℕ) → groupSize 0 c f ≡ 0
+pub no-size : (c f : ℕ) → groupSize 0 c f ≡ 0
 unfolding groupSize
 no-size c f = omega arith
 

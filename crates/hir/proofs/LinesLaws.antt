@@ -21,6 +21,7 @@ use Rattle.line.specs.Line.{Plain, unknown, known, wordSays, piecesSay, lineSay
 use Rattle.line.specs.declared.line.Head.{Head as Seen}
 use Rattle.line.proofs.ReadLaws.{placed-line, fill-word}
 use Rattle.line.proofs.LineLaws.{split-some}
+use Rattle.line.proofs.KnownLaws.{same-place, bind-fields}
 use Rattle.line.proofs.FillLaws.{Says, says, faulty, a-letter, a-variable, value-at}
 use Rattle.hir.specs.Run.{Run, stopped, passed, before, carryOn, atEnd, run, behind, addAll, finish}
 use Rattle.hir.proofs.RunLaws.{check-run}
@@ -223,12 +224,6 @@ sheet-lines d s hs e =
 
 -- ## What is read at a position
 
--- the two ways to tell where the next line starts
-pub same-place : (s : Bytes) (p q : ℕ) → p ≤ length s → q ≤ length s → split 10 (drop p s) ≡ split 10 (drop q s) → p ≡ q
-same-place s p q hp hq e =
-    let d = split-inj 10 (drop p s) (drop q s) e in
-    omega (arith, length-drop p s, length-drop q s, ap length d)
-
 pub read-at : (s : Bytes) (p q : ℕ) (h : Head) (r : Seen) → LineAt s p h q → ReadAs s p r (split 10 (drop p s)) → HeadIs s r h × (r .next ≡ q)
 read-at s p q h r a x = go (split 10 (drop q s)) refl (split-some 10 (drop q s)) (rw (a .stands) at x)
   where
@@ -325,10 +320,6 @@ met-walk {ks = ks} (one-in i is) (meets {w = w} {ws = ws} {h = h} {hs = hs} f g 
     (suc (r .0), omega (arith, r .1), drop-drop (length ws) (arity h) (walk env (suc n) hs) ∙ ap (λ (x : ℕ). drop x (walk env (suc n) hs)) (sym l) ∙ r .2 ∙ ap (λ (x : ℕ). walk env x ks) nm)
 
 -- ## A binding has a variable
-
-bind-fields : (v : Word) → rank (row v .place) ≡ 1 → row v .fields ≡ variable ∷ letter ∷ []
-unfolding row rank
-bind-fields v e = every-where (λ (v : Word). eqb (rank (row v .place)) 1) (λ (v : Word). row v .fields) (variable ∷ letter ∷ []) refl v (eq-eqb (rank (row v .place)) 1 e)
 
 letter-var : (k h : Head) (xs : List Bytes) → fill k (letter ∷ []) xs ≡ ok h → h .var ≡ k .var
 unfolding fill

@@ -3,18 +3,9 @@ use mathlib.Core.Path.{_≡_}
 use mathlib.Core.List.{List, [], _∷_, _++_}
 use mathlib.Core.Bool.{true}
 use Prim.Native.Nat.{ℕ, suc, _≤_, _<_}
-use lib.ListN.{length, drop}
-use Rattle.semantics.specs.Bytes.{Bytes, split}
+use Rattle.semantics.specs.Bytes.{Bytes}
 use Rattle.semantics.specs.Sheet.{Head, variableOf, rank, place, ok, Want, fits, beyond, under}
-use Rattle.line.specs.Line.{known, lineSays}
-
--- the line at p says the head h, and the next line starts at q
-pub record LineAt (s : Bytes) (p : ℕ) (h : Head) (q : ℕ) : Type 0 where
-  pub text : Bytes
-  pub stands : split 10 (drop p s) ≡ text ∷ split 10 (drop q s)
-  pub says : lineSays text ≡ known (h .word) (ok h)
-  pub on : p < q
-  pub inside : q ≤ length s
+pub use Rattle.line.specs.Known.{LineAt}
 
 -- the lines from p up to q say these heads
 pub data Lines (s : Bytes) : ℕ → List Head → ℕ → Type 0 where

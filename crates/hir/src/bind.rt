@@ -4,7 +4,8 @@ ghost use Prim.Native.Nat.{_≤_, _<_};
 ghost use lib.ListN.{length};
 ghost use Rattle.hir.specs.Bind.{kindOf, BindsAt, StartAs};
 use line::VarId;
-use line::read_line;
+use line::bound_at;
+use line::kind_of;
 
 // Where the line starts that holds the byte at `mid`, not before `lo`.
 fn line_start(sheet: &[u8], lo: usize, mid: usize) -> usize
@@ -13,7 +14,7 @@ fn line_start(sheet: &[u8], lo: usize, mid: usize) -> usize
 {
     let mut p = mid;
     while lo < p {
-        if sheet[p - 1] == 10 {
+        if sheet[p - 1] == text::LINE_END {
             return p;
         }
         p -= 1;
@@ -77,6 +78,11 @@ fn probe(lo: usize, hi: usize, least: usize, most: usize, var: usize, turn: usiz
     if step < room { lo + step } else { hi - 1 }
 }
 
+// What stands behind the digits of a binding's variable: a comma, the letter, LF.
+const COMMA: usize = 1;
+
+const AFTER_DIGITS: usize = 3;
+
 // The kind of a variable by the `b` lines from `from` to `to`: 0 node, 1 relationship, 2 path, 3 value or none.
 pub fn bind_kind(sheet: &[u8], from: usize, to: usize, var: VarId) -> u64
     requires { ⌜ BindsAt (now sheet) from to ⌝ }
@@ -90,14 +96,15 @@ pub fn bind_kind(sheet: &[u8], from: usize, to: usize, var: VarId) -> u64
     while lo < hi {
         let mid = probe(lo, hi, least, most, var.0 as usize, turn);
         let start = line_start(sheet, lo, mid);
-        let h = read_line(sheet, start);
-        let v = h.var;
+        let g = bound_at(sheet, start);
+        let v = g.var;
         turn = later(turn);
         if v.0 == var.0 {
-            return h.num;
+            let letter = g.end + COMMA;
+            return kind_of(sheet[letter]);
         }
         if v.0 < var.0 {
-            lo = h.next;
+            lo = g.end + AFTER_DIGITS;
             least = v.0 as usize;
         } else {
             hi = start;

@@ -17,6 +17,8 @@ use line::group1_of;
 use line::group2_of;
 use line::is_leaf;
 use line::read_line;
+use semantics::ACCEPTED;
+use semantics::BADLY_WRITTEN;
 
 // A tree of lines is fine, and what follows starts at `next`, line `line`; or it is refused.
 pub enum Check {
@@ -81,10 +83,10 @@ fn verdict(h: Head, class: usize, depth: usize) -> u32
     if class_of(h.word) != class {
         return 3;
     }
-    if h.why != 0 {
+    if h.why != ACCEPTED {
         return h.why;
     }
-    if class == 13 {
+    if class == line::AT_EXPRESSION {
         if depth == 0 {
             return 5;
         }
@@ -97,7 +99,11 @@ fn below(class: usize, depth: usize) -> usize
     requires { ⌜ (class ≡ 13 → 0 < depth) ⌝ }
     ensures { λ r. ⌜ r ≡ pickC (eqb class 13) (depth - 1) depth ⌝ }
 {
-    if class == 13 { depth - 1 } else { depth }
+    if class == line::AT_EXPRESSION {
+        depth - 1
+    } else {
+        depth
+    }
 }
 
 // The lines below this one, and all below those, from its next line on.
@@ -112,7 +118,7 @@ pub fn check_kids(sheet: &[u8], h: Head, line: HirId, depth: usize) -> Check
     let mut j = 0;
     while j < n {
         let c = class_at(kids, j);
-        let k = read_line(sheet, p);
+        let k = read_line(sheet, p, false);
         let why = verdict(k, c, depth);
         if why != 0 {
             return Check::Refused { why, line: l };
@@ -146,11 +152,11 @@ fn check_binds(sheet: &[u8], at: usize, line: HirId) -> Check
     let mut l = line;
     let mut least: u64 = 0;
     loop {
-        let h = read_line(sheet, p);
-        if class_of(h.word) != 1 {
+        let h = read_line(sheet, p, false);
+        if class_of(h.word) != line::AT_BINDING {
             return Check::Fine { next: p, line: l };
         }
-        if h.why != 0 {
+        if h.why != ACCEPTED {
             return Check::Refused {
                 why: h.why,
                 line: l,
@@ -159,7 +165,10 @@ fn check_binds(sheet: &[u8], at: usize, line: HirId) -> Check
         let v = h.var;
         let n = v.0 as u64;
         if n < least {
-            return Check::Refused { why: 3, line: l };
+            return Check::Refused {
+                why: BADLY_WRITTEN,
+                line: l,
+            };
         }
         least = n + 1;
         p = h.next;
@@ -172,12 +181,12 @@ fn check_end(h: Head, line: HirId, len: usize) -> Check
     requires { ⌜ line .0 < 4294967295 ⌝ }
     ensures { λ r. ⌜ r ≡ endOf h line len ⌝ }
 {
-    if h.why != 0 {
+    if h.why != ACCEPTED {
         return Check::Refused { why: h.why, line };
     }
     if h.next != len {
         return Check::Refused {
-            why: 3,
+            why: BADLY_WRITTEN,
             line: next_line(line),
         };
     }
@@ -192,11 +201,11 @@ fn check_clauses(sheet: &[u8], at: usize, line: HirId, depth: usize) -> Check
     let mut p = at;
     let mut l = line;
     loop {
-        let h = read_line(sheet, p);
-        if class_of(h.word) == 3 {
+        let h = read_line(sheet, p, false);
+        if class_of(h.word) == line::AT_END {
             return check_end(h, l, sheet.len());
         }
-        let why = verdict(h, 2, depth);
+        let why = verdict(h, line::AT_CLAUSE, depth);
         if why != 0 {
             return Check::Refused { why, line: l };
         }
@@ -243,7 +252,7 @@ fn check_rest(sheet: &[u8], from: usize, depth: usize) -> Outline
             match check_clauses(sheet, next, line, depth) {
                 Check::Refused { why, line: at } => refused(why, at),
                 Check::Fine { next: _, line: _ } => Outline {
-                    why: 0,
+                    why: ACCEPTED,
                     line,
                     from,
                     to: next,
@@ -258,8 +267,8 @@ pub fn check_sheet(sheet: &[u8], depth: usize) -> Outline
     requires { ⌜ length (now sheet) < 4294967294 ⌝ }
     ensures { λ r. ⌜ OutlineAs depth (now (sheet .entry)) r ⌝ }
 {
-    let h = read_line(sheet, 0);
-    let why = verdict(h, 0, depth);
+    let h = read_line(sheet, 0, false);
+    let why = verdict(h, line::AT_FIRST, depth);
     if why != 0 {
         return refused(why, HirId(1));
     }

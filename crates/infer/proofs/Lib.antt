@@ -11,4 +11,5 @@ pub mod WalkInfer
 pub mod WalkPattern
 pub mod WalkEnter
 pub mod WalkCycle
+pub mod WalkLeaf
 pub mod StatementLaws

@@ -9,6 +9,7 @@ use Rattle.semantics.specs.Sheet.{Word, Head, Place, Typing, rank, row, rule, r
 use Rattle.semantics.specs.Walk.{Env}
 use Rattle.line.specs.Rows.{wordNo}
 use Rattle.line.specs.Line.{HeadIs, ReadAs}
+use Rattle.line.specs.Known.{FineAt}
 use Rattle.line.specs.declared.line.Head.{Head as Seen}
 use Rattle.line.specs.declared.line.HirId.{HirId}
 use Rattle.hir.specs.Check.{KidsAs}
@@ -32,8 +33,8 @@ use Rattle.infer.proofs.WalkTable.{typingOf}
 use Rattle.infer.proofs.WalkSmall.{asks-kids, rule-number}
 use Rattle.infer.proofs.WalkLoop.{Base, expr-base, base-pos, base-typed, Loop, loop-start}
 use Rattle.infer.proofs.WalkTurn.{loop-inside}
-use Rattle.infer.proofs.WalkInfer.{Lent, Back, Held, len-inside, less, role-asks, child-ask, child-name, stop-inside, child-large, child-countable, some-step, step-long, step-out, step-large, step-on, some-end, end-walked, stopped-walked, child-long}
-use Rattle.infer.proofs.WalkPattern.{PatLoop, pat-start, pat-inside, pat-todo, pat-line, pat-first, pat-read, pat-ask, pat-long, pat-out, pat-large, pat-down, pat-on, pass, pass-room, pat-end}
+use Rattle.infer.proofs.WalkInfer.{Lent, Back, Held, len-inside, less, role-asks, child-known, child-ask, child-name, stop-inside, child-large, child-countable, some-step, step-long, step-out, step-large, step-on, some-end, end-walked, stopped-walked, child-long}
+use Rattle.infer.proofs.WalkPattern.{PatLoop, pat-start, pat-inside, pat-todo, pat-line, pat-first, pat-next, pat-read, pat-ask, pat-long, pat-out, pat-large, pat-down, pat-on, pass, pass-room, pat-end}
 use Rattle.infer.proofs.WalkEnter.{not-via}
 
 -- ## What other functions say
@@ -96,6 +97,9 @@ module _ {s : Bytes} {b : Binds} {h : Seen} {cur : Cur} {depth : ℕ} {workE : B
       module _ (more : j < kk .all) where
         pub infer-role : (h .count < 65536) × (h .flag < 4) × (j < 1048576)
         infer-role = role-asks (expr-base (x .at)) (x .bound) infer-loop infer-room hung more
+
+        pub infer-fine : FineAt s (c .at)
+        infer-fine = child-known (expr-base (x .at)) (x .bound) infer-loop infer-room hung more
 
         module _ (k : Seen) (read : ReadAs s (c .at) k (split 10 (drop (c .at) s))) where
           pub infer-child : AnyAsk s b k c (depth - 1) (Lent work (st .len)) y
@@ -193,6 +197,9 @@ module _ {s : Bytes} {b : Binds} {k : Seen} {c₀ : Cur} {depth : ℕ} {work₀ 
 
   pub tree-room : 2 ≤ length work
   tree-room = omega (arith, x .room, i .long)
+
+  pub tree-fine : 0 < todo → FineAt s (c .at)
+  tree-fine more = record { head = pat-first tree-loop more .head; next = pat-next tree-loop more .next; line = pat-next tree-loop more .line }
 
   module _ (more : 0 < todo) (g : Seen) (read : ReadAs s (c .at) g (split 10 (drop (c .at) s))) where
     tree-class : {hd : Head} {hs ks : List Head} {env : Env} (L : PatLoop s depth (c₀ .line .0) hd hs ks env out₀ y₀ out c y todo) → classOf g ≡ rank (place (pat-first L more .head))

@@ -12,6 +12,7 @@ use Rattle.semantics.specs.Sheet.{Head, Role, answer, Typing, rule, roles, arit
 use Rattle.semantics.specs.Walk.{Env, Fault, step, walk}
 use Rattle.semantics.proofs.All.{empty}
 use Rattle.line.specs.Line.{ReadAs}
+use Rattle.line.specs.Known.{FineAt}
 use Rattle.line.specs.declared.line.Head.{Head as Seen}
 use Rattle.line.specs.declared.line.HirId.{HirId}
 use Rattle.finish.specs.End.{EndedAs, Countable}
@@ -43,7 +44,7 @@ use Rattle.infer.proofs.WalkTrees.{no-wants, tree-ends}
 use Rattle.infer.proofs.WalkKept.{form-before, form-whole, weak, before-weak, fine-weak, child-weak, leaves}
 use Rattle.infer.proofs.WalkSmall.{adds-long, type-behind, child-room, low-weak, end-room, spelt-name, asks-kids, kids-arity}
 use Rattle.infer.proofs.WalkLoop.{Base, expr-in, base-pos, base-typed, base-passed, Loop}
-use Rattle.infer.proofs.WalkTurn.{DoneAs, walked-done, walked-large, roleAt, loop-len, turn-first, turn-read, turn-any, turn-ask, turnRes, turn-halted, turn-large, turn-fine, turn-level, turn-name, turn-on, turn-countable}
+use Rattle.infer.proofs.WalkTurn.{DoneAs, walked-done, walked-large, roleAt, loop-len, turn-first, turn-line, turn-read, turn-any, turn-ask, turnRes, turn-halted, turn-large, turn-fine, turn-level, turn-name, turn-on, turn-countable}
 
 -- ## The step after a child
 
@@ -110,6 +111,10 @@ module _ {s : Bytes} {b : Binds} {h : Seen} {here depth : ℕ} {hd : Head} {hs k
 
       pub role-asks : (h .count < 65536) × (h .flag < 4) × (j < 1048576)
       role-asks = let a = asks-kids s h hd (B .is) in (omega (arith, a .1), omega (arith, a .2), omega (arith, hung .small, more))
+
+      -- its line is one of the tree's
+      pub child-known : FineAt s (c .at)
+      child-known = record { head = turn-first B L less .head; next = turn-line B L less .next; line = turn-line B L less .line }
 
       module _ (k : Seen) (read : ReadAs s (c .at) k (split 10 (drop (c .at) s))) where
         pub child-ask : Counting y₀ (suc (length hs)) → AnyAsk s b k c (depth - 1) (Lent work (st .len)) y

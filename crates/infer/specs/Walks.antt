@@ -2,10 +2,11 @@
 use mathlib.Core.Path.{_≡_}
 use mathlib.Core.List.{List, [], _∷_}
 use Prim.Native.Nat.{ℕ, suc, _+_, _-_, _*_, _<_, _≤_, _^_}
-use lib.ListN.{length, take, drop}
+use lib.ListN.{length, getD, take, drop}
 use Rattle.semantics.specs.Bytes.{Bytes, split}
 use Rattle.semantics.specs.Sheet.{Head, Place, AtExpression, rank, Want, at, arity}
 use Rattle.semantics.specs.Walk.{Env, Res, step, walk}
+use Rattle.line.specs.Arrays.{groups, seconds}
 use Rattle.line.specs.Line.{HeadIs, ReadAs}
 use Rattle.line.specs.declared.line.Head.{Head as Seen}
 use Rattle.line.specs.declared.line.HirId.{HirId}
@@ -79,6 +80,20 @@ pub record ExprAsk (s : Bytes) (b : Binds) (h : Seen) (c : Cur) (depth : ℕ) (w
 abbrev pub ExprWalked : Bytes → Binds → Seen → Cur → ℕ → Bytes → Bytes → Bytes → Bytes → Tally → Walk → Type 0
 ExprWalked s b h c depth work work′ out out′ y r =
     (a : ExprAt s h c depth) (env : Env) → EnvAs s b env → Walked env s (c .line .0) (a .tree .head) (a .tree .under) (a .tree .rest) work work′ out out′ y r
+
+-- ## An expression below whose line nothing can stand, with any number of levels left
+
+-- both groups of the word are empty
+abbrev pub Leaf : ℕ → Type 0
+Leaf word = (getD groups word 0 ≡ 0) × (getD seconds word 0 ≡ 0)
+
+pub record LeafAsk (s : Bytes) (b : Binds) (h : Seen) (c : Cur) (work : Bytes) (y : Tally) : Type 0 where
+  pub depth : ℕ
+  pub ask : ExprAsk s b h c depth work y
+  pub leaf : Leaf (h .word)
+
+abbrev pub LeafWalked : Bytes → Binds → Seen → Cur → Bytes → Bytes → Bytes → Bytes → Tally → Walk → Type 0
+LeafWalked s b h c work work′ out out′ y r = (depth : ℕ) → ExprWalked s b h c depth work work′ out out′ y r
 
 -- ## Any tree inside a clause: `depth` levels are left for its expressions, its own line included
 

@@ -10,41 +10,76 @@ ghost use Rattle.line.specs.Line.{HeadIs};
 ghost use Rattle.infer.specs.Steps.{ruleNo, roleNo, caseRow};
 use line::Head;
 
-// 0 a constant, 1 a variable, 2 an element, 3 a slice, 4 a list, 5 a map, 6 a call, 7 an operator, 8 a unary one, 9 CASE, 10 IN,
-// 11 a comprehension, 12 no type, 13 an entry.
+// The rules: how an expression is typed; a line that has no type; an entry, which has that of the expression behind it.
+pub const CONSTANT: usize = 0;
+
+pub const VARIABLE: usize = 1;
+
+pub const ELEMENT: usize = 2;
+
+pub const SLICE: usize = 3;
+
+pub const LISTING: usize = 4;
+
+pub const MAPPING: usize = 5;
+
+pub const CALL: usize = 6;
+
+pub const OPERATOR: usize = 7;
+
+pub const UNARY: usize = 8;
+
+pub const CASING: usize = 9;
+
+pub const MEMBERSHIP: usize = 10;
+
+pub const COMPREHENSION: usize = 11;
+
+pub const SILENT: usize = 12;
+
+pub const ENTRY: usize = 13;
+
+// The rule of a word. Made by tools/line_table.py.
 pub fn rule_of(word: usize) -> usize
     ensures { λ r. ⌜ ((v : Word) → word ≡ wordNo v → r ≡ ruleNo (row v .rule)) ⌝ }
 {
     match word {
-        26 => 0, // null
-        27 => 0, // bool
-        28 => 0, // int
-        29 => 0, // flt
-        30 => 0, // str
-        31 => 1, // var
-        32 => 0, // par
-        33 => 0, // unr
-        34 => 0, // exi
-        35 => 0, // prop
-        36 => 2, // idx
-        37 => 3, // sli
-        38 => 4, // lis
-        39 => 5, // map
-        40 => 13, // key
-        41 => 6, // call
-        42 => 7, // bin
-        43 => 8, // una
-        44 => 9, // case
-        45 => 0, // isn
-        46 => 10, // in
-        47 => 0, // pat
-        48 => 11, // lcp
-        49 => 11, // pcp
-        50 => 0, // lpr
-        51 => 0, // mpr
-        _ => 12,
+        line::NULL => CONSTANT,
+        line::BOOL => CONSTANT,
+        line::INT => CONSTANT,
+        line::FLT => CONSTANT,
+        line::STR => CONSTANT,
+        line::VAR => VARIABLE,
+        line::PAR => CONSTANT,
+        line::UNR => CONSTANT,
+        line::EXI => CONSTANT,
+        line::PROP => CONSTANT,
+        line::IDX => ELEMENT,
+        line::SLI => SLICE,
+        line::LIS => LISTING,
+        line::MAP => MAPPING,
+        line::KEY => ENTRY,
+        line::CALL => CALL,
+        line::BIN => OPERATOR,
+        line::UNA => UNARY,
+        line::CASE => CASING,
+        line::ISN => CONSTANT,
+        line::IN => MEMBERSHIP,
+        line::PAT => CONSTANT,
+        line::LCP => COMPREHENSION,
+        line::PCP => COMPREHENSION,
+        line::LPR => CONSTANT,
+        line::MPR => CONSTANT,
+        _ => SILENT,
     }
 }
+
+// The roles of children: a child whose type is only kept; one that must be a Bool; one whose type counts for a CASE.
+pub const PLAIN: usize = 0;
+
+pub const CONDITION: usize = 1;
+
+pub const ANSWER: usize = 2;
 
 // CASE: a scrutinee by the lowest bit, then conditions and answers in turn, then an answer by the next bit.
 fn case_role(flag: u64, count: u64, j: usize) -> usize
@@ -53,16 +88,16 @@ fn case_role(flag: u64, count: u64, j: usize) -> usize
 {
     let first = (flag % 2) as usize;
     if j < first {
-        return 0;
+        return PLAIN;
     }
     let i = j - first;
     if i >= 2 * (count as usize) {
-        return 2;
+        return ANSWER;
     }
     if i % 2 == 1 {
-        return 2;
+        return ANSWER;
     }
-    if first == 1 { 0 } else { 1 }
+    if first == 1 { PLAIN } else { CONDITION }
 }
 
 // A comprehension: a first child, a condition by the bit, a last.
@@ -70,21 +105,21 @@ fn around_role(bit: u64, j: usize) -> usize
     ensures { λ r. ⌜ ((p : Role) → roleNo p ≡ 0 → bit ≤ 1 → r ≡ roleNo (getD (p ∷ present bit condition (plain ∷ [])) j plain)) ⌝ }
 {
     if j == 0 {
-        return 0;
+        return PLAIN;
     }
-    if j as u64 > bit { 0 } else { 1 }
+    if j as u64 > bit { PLAIN } else { CONDITION }
 }
 
-// 1 for the j-th child if it must be a Bool, 2 if its type counts for a CASE, else 0.
+// The role of the j-th child.
 pub fn role_of(h: Head, j: usize) -> usize
     requires { ⌜ (h .count < 65536) × (h .flag < 4) × (j < 1048576) ⌝ }
     ensures { λ r. ⌜ ((s : Bytes) (hd : Line) → HeadIs s h hd → j < arity hd → r ≡ roleNo (getD (roles hd) j plain)) ⌝ }
 {
     let word = h.word;
     match word {
-        44 => case_role(h.flag, h.count, j),
-        48 => around_role(h.flag, j),
-        49 => around_role(h.flag, j),
-        _ => 0,
+        line::CASE => case_role(h.flag, h.count, j),
+        line::LCP => around_role(h.flag, j),
+        line::PCP => around_role(h.flag, j),
+        _ => PLAIN,
     }
 }

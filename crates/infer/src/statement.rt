@@ -1,13 +1,22 @@
-// The clauses of a sheet: every expression line that is met is a top expression, every other line is stepped over (`infer_types`).
+// The clauses of a sheet: every expression line that is met is a top expression, every other line is stepped over by its word and its
+// LF alone (`infer_types`).
 ghost use mathlib.Core.Path.{_≡_};
+ghost use Prim.Native.Nat.{_+_, _<_, _≤_};
+ghost use lib.ListN.{length};
+ghost use Rattle.line.specs.Opening.{BehindAs};
 ghost use Rattle.infer.specs.Statement.{StatementAsk, Reported};
+ghost use Rattle.infer.specs.Walks.{ExprAsk, ExprWalked};
 use crate::step::Env;
 use crate::walk::Cur;
 use crate::walk::Walk;
 use crate::walk::infer_expr;
-use crate::walk::past;
+use crate::walk::infer_leaf;
+use line::Head;
 use line::HirId;
 use line::class_of;
+use line::is_leaf;
+use line::line_behind;
+use line::opening_of;
 use line::read_line;
 use report::Tally;
 
@@ -24,6 +33,38 @@ fn filled(y: Tally, fill: usize) -> Tally
     Tally {
         fill,
         faults: y.faults,
+    }
+}
+
+// The type of a top expression, whose line is `h`.
+fn infer_top(
+    b: Env,
+    sheet: &[u8],
+    h: Head,
+    cur: Cur,
+    levels: usize,
+    work: &mut [u8],
+    out: &mut [u8],
+    tally: Tally,
+) -> Walk
+    requires { ⌜ ExprAsk (now sheet) b h cur levels (now work) tally ⌝ }
+    ensures { λ r. ⌜ ExprWalked (now (sheet .entry)) b h cur levels (now (work .entry)) (now (work .exit)) (now (out .entry)) (now (out .exit)) tally r ⌝ }
+{
+    if is_leaf(h.word) {
+        return infer_leaf(b, sheet, h, cur, work, out, tally);
+    }
+    infer_expr(b, sheet, h, cur, levels, work, out, tally)
+}
+
+// The cursor behind the line of which `from` is a place.
+fn skipped(sheet: &[u8], c: Cur, from: usize) -> Cur
+    requires { ⌜ (c .line .0 < 4294967295) × (from ≤ length (now sheet)) × (length (now sheet) < 4294967294) ⌝ }
+    ensures { λ r. ⌜ BehindAs (now (sheet .entry)) from (r .at) × (r .line .0 ≡ c .line .0 + 1) ⌝ }
+{
+    let line = hir::next_line(c.line);
+    Cur {
+        at: line_behind(sheet, from),
+        line,
     }
 }
 
@@ -44,13 +85,14 @@ pub fn check_statement(
     let mut types: u64 = 0;
     loop {
         let p = c.at;
-        let k = read_line(sheet, p);
-        let class = class_of(k.word);
-        if class == 3 {
+        let o = opening_of(sheet, p);
+        let class = class_of(o.word);
+        if class == line::AT_END {
             return Report::Made(report::end_line(out, y.fill, types, y.faults as u64));
         }
-        if class == 13 {
-            match infer_expr(b, sheet, k, c, levels, work, out, y) {
+        if class == line::AT_EXPRESSION {
+            let k = read_line(sheet, p, true);
+            match infer_top(b, sheet, k, c, levels, work, out, y) {
                 Walk::Done { len, cur, tally } => {
                     c = cur;
                     y = filled(tally, report::type_line(out, tally.fill, &work[..len]));
@@ -61,7 +103,7 @@ pub fn check_statement(
                 }
             }
         } else {
-            c = past(c, k);
+            c = skipped(sheet, c, o.from);
         }
     }
 }

@@ -8,6 +8,20 @@ ghost use Rattle.ty.specs.Kind.{SomeKind};
 ghost use Rattle.kept.specs.State.{StAs, FineKept, SomeArm};
 ghost use Rattle.finish.specs.End.{Countable};
 ghost use Rattle.infer.specs.Steps.{typingNo, SomeStep, TwoKept, AnswerKept, KeptBy, AskedBy, SteppedBy, SpeltAs, LetterBy, ConstantBy, SomeQuiet, QuietBy, SomeEnd, EndedBy};
+use crate::rule::ANSWER;
+use crate::rule::CALL;
+use crate::rule::CASING;
+use crate::rule::COMPREHENSION;
+use crate::rule::CONDITION;
+use crate::rule::CONSTANT;
+use crate::rule::ELEMENT;
+use crate::rule::LISTING;
+use crate::rule::MAPPING;
+use crate::rule::MEMBERSHIP;
+use crate::rule::OPERATOR;
+use crate::rule::SLICE;
+use crate::rule::UNARY;
+use crate::rule::VARIABLE;
 use crate::rule::rule_of;
 use finish::Ended;
 use kept::Keep;
@@ -33,10 +47,10 @@ pub fn start(rule: usize, work: &mut [u8]) -> St
     ensures { λ r. ⌜ (length (now (work .exit)) ≡ length (now (work .entry))) × ((q : Typing) → rule ≡ typingNo q → StAs (start q) (now (work .exit)) r × FineKept (start q)) ⌝ }
 {
     match rule {
-        4 => kept::start_list(work),
-        5 => kept::start_map(work),
-        9 => kept::start_arms(),
-        11 => kept::start_list(work),
+        LISTING => kept::start_list(work),
+        MAPPING => kept::start_map(work),
+        CASING => kept::start_arms(),
+        COMPREHENSION => kept::start_list(work),
         _ => kept::start_empty(),
     }
 }
@@ -56,7 +70,7 @@ fn keep_answer(role: usize, st: St, work: &mut [u8], n: usize) -> St
     requires { ⌜ SomeArm (now work) st n ⌝ }
     ensures { λ r. ⌜ AnswerKept role (now (work .entry)) (now (work .exit)) st n r ⌝ }
 {
-    if role == 2 {
+    if role == ANSWER {
         return kept::case_arm(st, work, n);
     }
     st
@@ -68,16 +82,16 @@ fn keep(rule: usize, role: usize, st: St, work: &mut [u8], n: usize, name: &[u8]
     ensures { λ r. ⌜ KeptBy rule role (now (work .entry)) (now (work .exit)) st n (now (name .entry)) r ⌝ }
 {
     match rule {
-        2 => Keep::On(kept::keep_first(st, n)),
-        3 => Keep::On(kept::keep_first(st, n)),
-        4 => kept::list_item(st, work, n),
-        5 => kept::map_value(st, work, n, name),
-        6 => Keep::On(kept::keep_first(st, n)),
-        7 => Keep::On(keep_two(st, n)),
-        8 => Keep::On(kept::keep_first(st, n)),
-        9 => Keep::On(keep_answer(role, st, work, n)),
-        10 => Keep::On(keep_two(st, n)),
-        11 => Keep::On(kept::keep_last(st, n)),
+        ELEMENT => Keep::On(kept::keep_first(st, n)),
+        SLICE => Keep::On(kept::keep_first(st, n)),
+        LISTING => kept::list_item(st, work, n),
+        MAPPING => kept::map_value(st, work, n, name),
+        CALL => Keep::On(kept::keep_first(st, n)),
+        OPERATOR => Keep::On(keep_two(st, n)),
+        UNARY => Keep::On(kept::keep_first(st, n)),
+        CASING => Keep::On(keep_answer(role, st, work, n)),
+        MEMBERSHIP => Keep::On(keep_two(st, n)),
+        COMPREHENSION => Keep::On(kept::keep_last(st, n)),
         _ => Keep::On(st),
     }
 }
@@ -87,7 +101,7 @@ fn ask(role: usize, kind: u8, out: &mut [u8], tally: Tally) -> Tally
     requires { ⌜ Countable tally × SomeKind kind ⌝ }
     ensures { λ r. ⌜ AskedBy role kind (now (out .entry)) (now (out .exit)) tally r ⌝ }
 {
-    if role == 1 {
+    if role == CONDITION {
         return report::require_bool(kind, out, tally);
     }
     tally
@@ -122,38 +136,38 @@ pub fn spelt(k: Head) -> usize
     if k.name < k.stop { k.name } else { k.stop }
 }
 
-// The letter of a constant's type, by the word; `mpr` has two.
+// The letter of a constant's type, by the word; `mpr` has two. Made by tools/line_table.py.
 fn letter_of(word: usize) -> u8
     ensures { λ r. ⌜ LetterBy word r ⌝ }
 {
     match word {
-        26 => 66, // null
-        27 => 67, // bool
-        28 => 68, // int
-        29 => 69, // flt
-        30 => 71, // str
-        31 => 80, // var
-        32 => 65, // par
-        33 => 80, // unr
-        34 => 80, // exi
-        35 => 65, // prop
-        36 => 80, // idx
-        37 => 80, // sli
-        38 => 80, // lis
-        39 => 80, // map
-        40 => 80, // key
-        41 => 80, // call
-        42 => 80, // bin
-        43 => 80, // una
-        44 => 80, // case
-        45 => 67, // isn
-        46 => 80, // in
-        47 => 67, // pat
-        48 => 80, // lcp
-        49 => 80, // pcp
-        50 => 67, // lpr
-        51 => 75, // mpr
-        _ => 80,
+        line::NULL => ty::NULL,
+        line::BOOL => ty::BOOL,
+        line::INT => ty::INT,
+        line::FLT => ty::FLOAT,
+        line::STR => ty::STRING,
+        line::VAR => ty::UNKNOWN,
+        line::PAR => ty::ANY,
+        line::UNR => ty::UNKNOWN,
+        line::EXI => ty::UNKNOWN,
+        line::PROP => ty::ANY,
+        line::IDX => ty::UNKNOWN,
+        line::SLI => ty::UNKNOWN,
+        line::LIS => ty::UNKNOWN,
+        line::MAP => ty::UNKNOWN,
+        line::KEY => ty::UNKNOWN,
+        line::CALL => ty::UNKNOWN,
+        line::BIN => ty::UNKNOWN,
+        line::UNA => ty::UNKNOWN,
+        line::CASE => ty::UNKNOWN,
+        line::ISN => ty::BOOL,
+        line::IN => ty::UNKNOWN,
+        line::PAT => ty::BOOL,
+        line::LCP => ty::UNKNOWN,
+        line::PCP => ty::UNKNOWN,
+        line::LPR => ty::BOOL,
+        line::MPR => ty::MAP,
+        _ => ty::UNKNOWN,
     }
 }
 
@@ -162,8 +176,8 @@ fn constant(word: usize, work: &mut [u8]) -> usize
     requires { ⌜ 1024 ≤ length (now work) ⌝ }
     ensures { λ r. ⌜ ConstantBy word (now (work .entry)) (now (work .exit)) r ⌝ }
 {
-    if word == 51 {
-        return finish::put_pair(work, 75, 33);
+    if word == line::MPR {
+        return finish::put_pair(work, ty::MAP, ty::CLOSE);
     }
     finish::put_letter(work, letter_of(word))
 }
@@ -174,14 +188,14 @@ fn quiet(rule: usize, b: Env, sheet: &[u8], h: Head, st: St, work: &mut [u8]) ->
     ensures { λ r. ⌜ QuietBy rule (now (sheet .entry)) b h (now (work .entry)) (now (work .exit)) st r ⌝ }
 {
     match rule {
-        0 => constant(h.word, work),
-        1 => {
+        CONSTANT => constant(h.word, work),
+        VARIABLE => {
             let v = h.var;
             finish::var_type(hir::bind_kind(sheet, b.from, b.to, v), work)
         }
-        2 => finish::end_element(st, work),
-        3 => finish::end_slice(st, work),
-        4 => finish::end_list(st, work),
+        ELEMENT => finish::end_element(st, work),
+        SLICE => finish::end_slice(st, work),
+        LISTING => finish::end_list(st, work),
         _ => st.len,
     }
 }
@@ -201,16 +215,16 @@ pub fn finish(
 {
     let rule = rule_of(h.word);
     match rule {
-        6 => {
+        CALL => {
             let n = spelt(h);
             let e = h.stop;
             finish::end_call(&sheet[n..e], st, work, out, tally)
         }
-        7 => finish::infer_binop(h.num, st, work, out, tally),
-        8 => finish::infer_unaryop(h.num, work, out, tally, st),
-        9 => finish::end_case(st, work, out, tally),
-        10 => finish::check_in_list(st, work, out, tally),
-        11 => finish::end_last(st, work, out, tally),
+        OPERATOR => finish::infer_binop(h.num, st, work, out, tally),
+        UNARY => finish::infer_unaryop(h.num, work, out, tally, st),
+        CASING => finish::end_case(st, work, out, tally),
+        MEMBERSHIP => finish::check_in_list(st, work, out, tally),
+        COMPREHENSION => finish::end_last(st, work, out, tally),
         _ => Ended::Typed {
             len: quiet(rule, b, sheet, h, st, work),
             tally,

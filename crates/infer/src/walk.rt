@@ -2,7 +2,7 @@
 ghost use mathlib.Core.Path.{_≡_};
 ghost use Prim.Native.Nat.{_+_, _<_, _≤_};
 ghost use lib.ListN.{length};
-ghost use Rattle.infer.specs.Walks.{EntersAs, ToldAs, ExprAsk, ExprWalked, AnyAsk, AnyWalked};
+ghost use Rattle.infer.specs.Walks.{EntersAs, ToldAs, ExprAsk, ExprWalked, LeafAsk, LeafWalked, AnyAsk, AnyWalked};
 use crate::rule::role_of;
 use crate::rule::rule_of;
 use crate::step::Env;
@@ -16,6 +16,7 @@ use kept::St;
 use line::Head;
 use line::HirId;
 use line::class_of;
+use line::is_leaf;
 use line::read_line;
 use report::Tally;
 
@@ -33,7 +34,7 @@ pub enum Walk {
 }
 
 // The cursor behind a line.
-pub fn past(c: Cur, h: Head) -> Cur
+fn past(c: Cur, h: Head) -> Cur
     requires { ⌜ c .line .0 < 4294967295 ⌝ }
     ensures { λ r. ⌜ (r .at ≡ h .next) × (r .line .0 ≡ c .line .0 + 1) ⌝ }
 {
@@ -52,13 +53,13 @@ fn entered(sheet: &[u8], k: Head, c: Cur) -> Met
     requires { ⌜ (c .line .0 < 4294967295) × (k .next ≤ length (now sheet)) ⌝ }
     ensures { λ r. ⌜ EntersAs (now (sheet .entry)) k c (r .head) (r .cur) ⌝ }
 {
-    if k.word != 40 {
+    if k.word != line::KEY {
         return Met { head: k, cur: c };
     }
     let cur = past(c, k);
     let p = cur.at;
     Met {
-        head: read_line(sheet, p),
+        head: read_line(sheet, p, false),
         cur,
     }
 }
@@ -82,6 +83,28 @@ fn told(e: Ended, here: HirId, cur: Cur) -> Walk
         Ended::Typed { len, tally } => Walk::Done { len, cur, tally },
         Ended::Large => Walk::TooLarge(here),
     }
+}
+
+// The type of an expression below whose line nothing can stand: nothing is kept before its end.
+pub fn infer_leaf(
+    b: Env,
+    sheet: &[u8],
+    h: Head,
+    cur: Cur,
+    work: &mut [u8],
+    out: &mut [u8],
+    tally: Tally,
+) -> Walk
+    requires { ⌜ LeafAsk (now sheet) b h cur (now work) tally ⌝ }
+    ensures { λ r. ⌜ LeafWalked (now (sheet .entry)) b h cur (now (work .entry)) (now (work .exit)) (now (out .entry)) (now (out .exit)) tally r ⌝ }
+{
+    let behind = past(cur, h);
+    let here = cur.line;
+    told(
+        finish(b, sheet, h, kept::start_empty(), work, out, tally),
+        here,
+        behind,
+    )
 }
 
 // The type of the expression whose line is `h`, with `depth` levels left.
@@ -108,7 +131,7 @@ pub fn infer_expr(
     let mut j = 0;
     while j < n {
         let p = c.at;
-        let k = read_line(sheet, p);
+        let k = read_line(sheet, p, true);
         let from = st.len;
         match check_tree(b, sheet, k, c, depth - 1, &mut work[from..], out, y) {
             Walk::Done {
@@ -156,8 +179,11 @@ fn check_tree(
 {
     let m = entered(sheet, k, cur);
     let e = m.head;
-    if class_of(e.word) == 13 {
+    if class_of(e.word) == line::AT_EXPRESSION {
         let at = m.cur;
+        if is_leaf(e.word) {
+            return infer_leaf(b, sheet, e, at, work, out, tally);
+        }
         return infer_expr(b, sheet, e, at, depth, work, out, tally);
     }
     let mut c = cur;
@@ -165,9 +191,14 @@ fn check_tree(
     let mut todo: usize = 1;
     while todo > 0 {
         let p = c.at;
-        let g = read_line(sheet, p);
-        if class_of(g.word) == 13 {
-            match infer_expr(b, sheet, g, c, depth, work, out, y) {
+        let g = read_line(sheet, p, true);
+        if class_of(g.word) == line::AT_EXPRESSION {
+            let typed = if is_leaf(g.word) {
+                infer_leaf(b, sheet, g, c, work, out, y)
+            } else {
+                infer_expr(b, sheet, g, c, depth, work, out, y)
+            };
+            match typed {
                 Walk::Done {
                     len: _,
                     cur: behind,
@@ -187,8 +218,8 @@ fn check_tree(
             todo = todo - 1 + kids.all;
         }
     }
-    work[0] = 80;
-    work[1] = 44;
+    work[0] = ty::UNKNOWN;
+    work[1] = text::COMMA;
     Walk::Done {
         len: 2,
         cur: c,

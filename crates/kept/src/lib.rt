@@ -8,7 +8,12 @@ ghost use Rattle.semantics.specs.Bytes.{Bytes};
 ghost use Rattle.semantics.specs.Ty.{Ty, tAny, base, ∅ᶠ};
 ghost use Rattle.walk_run.specs.Run.{Kept, keepFirst, empty, kept, both, items, last, entries, arms};
 ghost use Rattle.kept.specs.State.{StAs, ChildAt, LastChild, FirstForm, Keeps, SomeList, ListKept, Headed, SomeItem, ItemKept, SomeEntry, EntryKept, SomeArm, ArmKept};
+use text::COMMA;
+use ty::ANY;
+use ty::CLOSE;
 use ty::Grown;
+use ty::LIST;
+use ty::MAP;
 use unify::Unified;
 
 // The kept text is `len` long up to where the next child's type goes, and `second` behind that; `over` is 1 once a CASE is too large.
@@ -53,8 +58,8 @@ pub fn start_list(work: &mut [u8]) -> St
     requires { ⌜ 1024 ≤ length (now work) ⌝ }
     ensures { λ r. ⌜ StAs (items none) (now (work .exit)) r × StAs (last none) (now (work .exit)) r × (length (now (work .exit)) ≡ length (now (work .entry))) ⌝ }
 {
-    work[0] = 74;
-    work[1] = 44;
+    work[0] = LIST;
+    work[1] = COMMA;
     state(2, 0)
 }
 
@@ -63,10 +68,10 @@ pub fn start_map(work: &mut [u8]) -> St
     requires { ⌜ 1024 ≤ length (now work) ⌝ }
     ensures { λ r. ⌜ StAs (entries ∅ᶠ) (now (work .exit)) r × (length (now (work .exit)) ≡ length (now (work .entry))) ⌝ }
 {
-    work[0] = 75;
-    work[1] = 44;
-    work[2] = 33;
-    work[3] = 44;
+    work[0] = MAP;
+    work[1] = COMMA;
+    work[2] = CLOSE;
+    work[3] = COMMA;
     state(4, 0)
 }
 
@@ -110,8 +115,8 @@ fn any_items(work: &mut [u8]) -> Keep
     requires { ⌜ Headed (now work) ⌝ }
     ensures { λ r. ⌜ Keeps (some (items (some (base tAny)))) (now (work .entry)) (now (work .exit)) r ⌝ }
 {
-    work[2] = 65;
-    work[3] = 44;
+    work[2] = ANY;
+    work[3] = COMMA;
     Keep::On(state(4, 0))
 }
 

@@ -62,7 +62,7 @@ named-says f s (some ds) g e h = go (eqb (length ds % 2) 0) (leb (length ds) (2 
     go true false = four
     go false q = three
 
-lettered-says : (s : Bytes) → Says letter s (lettered s)
+pub lettered-says : (s : Bytes) → Says letter s (lettered s)
 unfolding lettered
 lettered-says [] = three
 lettered-says (c ∷ []) = go (eqb c 78) (eqb c 82) (eqb c 80) (eqb c 86)

@@ -8,3 +8,6 @@ pub mod LineLaws
 pub mod ReadLaws
 pub mod Tables
 pub mod QuickLaws
+pub mod KnownLaws
+pub mod KnownFields
+pub mod OpeningLaws

@@ -161,7 +161,7 @@ float-got s at r d h e l z =
 
 -- ## A dash
 
-first-of : (s : Bytes) (at end : ℕ) → at < end → getD (slice at end s) 0 0 ≡ getD s at 0
+pub first-of : (s : Bytes) (at end : ℕ) → at < end → getD (slice at end s) 0 0 ≡ getD s at 0
 first-of s at end h =
     let z : at + 0 ≡ at = omega arith in
     getD-slice at end s 0 0 (omega arith) ∙ ap (λ (j : ℕ). getD s j 0) z
@@ -180,7 +180,7 @@ letter-got s at c n h e a b v l z =
       letter-is t c n (length-slice at (at + 1) s (omega arith) ∙ omega arith) (first-of s at (at + 1) (omega arith) ∙ e) v ∙ as-letter 12 l t refl,
     )
 
-not-dash : (s : Bytes) (at end : ℕ) → end ≤ length s → (getD s at 0 ≡ 45 → ⊥) → false ≡ dash? (slice at end s)
+pub not-dash : (s : Bytes) (at end : ℕ) → end ≤ length s → (getD s at 0 ≡ 45 → ⊥) → false ≡ dash? (slice at end s)
 not-dash s at end k h = go (decLt at end)
   where
     go : Dec (at < end) → false ≡ dash? (slice at end s)

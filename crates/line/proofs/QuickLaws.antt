@@ -204,7 +204,7 @@ module _ (s : Bytes) (k end n sh : ℕ) (f : Fields) (p rest j : ℕ) (i : Quick
 
 -- ## The line
 
-taken-small : (n : ℕ) (s : Bytes) → ((x : ℕ) → getD s x 0 < 256) → (x : ℕ) → getD (take n s) x 0 < 256
+pub taken-small : (n : ℕ) (s : Bytes) → ((x : ℕ) → getD s x 0 < 256) → (x : ℕ) → getD (take n s) x 0 < 256
 taken-small zero s h zero = omega arith
 taken-small zero s h (suc x) = omega arith
 taken-small (suc n) [] h zero = omega arith
@@ -300,7 +300,7 @@ number-less c (v ∷ vs) = go (eqb c (codeFrom 1 (text (row v .spelled)))) (numb
     go true ih = word-range v .1
     go false ih = ih
 
-number-code : (c : ℕ) → 0 < numberIn c words → 0 < c
+pub number-code : (c : ℕ) → 0 < numberIn c words → 0 < c
 unfolding numberIn codeFrom text row wordNo
 number-code zero h = absurd (let z : 0 < 0 = h in omega arith)
 number-code (suc c) h = omega arith

@@ -19,6 +19,7 @@ use Rattle.line.specs.Arrays.{shapes, slots}
 use Rattle.line.specs.Rows.{wordNo, codeFrom, numberIn, numberOf}
 use Rattle.line.specs.Fields.{fieldsOf, clip, nothingYet, Agrees}
 use Rattle.line.specs.Line.{pieces, FilledAs, Plain, unknown, known, wordSays, piecesSay, lineSays, placed, most, Ranged, flagOf, countOf, HeadIs, SaysAs, ReadAs, seenAs}
+use Rattle.line.specs.Opening.{WordIs}
 use Rattle.line.proofs.Words.{Small, number-word}
 use Rattle.line.proofs.Rows.{shape-rule, count-rule, word-range, flag-rule, counted-rule, num-rule}
 use Rattle.line.proofs.FillLaws.{Says, says, faulty, in-range, a-bound, a-letter, a-signed, a-variable, some-variable, no-variable, a-name, a-float, an-alias, no-alias, value-at}
@@ -188,6 +189,10 @@ module _ (s : Bytes) (at q : ℕ) (inside : at ≤ length s) (e : Ends 44 s at q
   pub read-unknown : word ≡ 0 → (r : Seen) → r .word ≡ 0 → SaysAs s r (lineSays (drop at s))
   unfolding wordSays
   read-unknown z r h = rw (says-is, no-such found word word-is z, wordSays) h
+
+  pub word-says : (word ≡ 0 → ⊥) → WordIs word (lineSays (drop at s))
+  unfolding wordSays
+  word-says h = let t = known-word found word word-is h in rw (says-is, t .1, wordSays) (t .2)
 
   module _ (some-word : word ≡ 0 → ⊥) (sh n : ℕ) (es : sh ≡ getD shapes word 0) (en : suc n ≡ length (split 44 (drop at s))) where
     abbrev the : (v : Word) × (found ≡ some v) × (word ≡ wordNo v)

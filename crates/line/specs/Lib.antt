@@ -3,3 +3,5 @@ pub mod Rows
 pub mod Fields
 pub mod Line
 pub mod Quick
+pub mod Known
+pub mod Opening

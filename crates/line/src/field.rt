@@ -1,5 +1,4 @@
-// One field of a line. Shapes: 1 to 4 a number up to 1, 2, 3, 19; 5 a count; 6 the number 1; 7 a variable; 8 an optional variable;
-// 9 a name; 10 an optional name; 11 a bound; 12 the letter of a binding; 13 a signed number; 14 the digits of a float.
+// One field of a line, by its shape.
 ghost use mathlib.Core.Path.{_≡_};
 ghost use Prim.Native.Nat.{ℕ, _≤_, _<_};
 ghost use lib.ListN.{length};
@@ -7,7 +6,35 @@ ghost use lib.Dec.{eqb};
 ghost use Rattle.semantics.specs.Bytes.{decimal, unhex};
 ghost use Rattle.semantics.specs.Sheet.{number, nameV, dash?, within, named, lettered, signedOf, floatOf, boundOf, optional, alias};
 ghost use Rattle.line.specs.Fields.{fieldOf, valOf, whyOf, nameN, valueAt, negativeOf, positiveOf, pushed, storedIn, seenVar, seenName, pickN, nothingYet};
+use crate::packed::DASH;
+use crate::shapes::ALIAS;
+use crate::shapes::BOUND;
+use crate::shapes::COUNT;
+use crate::shapes::FLOAT;
+use crate::shapes::LETTER;
+use crate::shapes::NAME;
+use crate::shapes::ONLY_1;
+use crate::shapes::OPTIONAL;
+use crate::shapes::SIGNED;
+use crate::shapes::TO_2;
+use crate::shapes::TO_3;
+use crate::shapes::TO_19;
+use crate::shapes::VARIABLE;
+use semantics::ACCEPTED;
+use semantics::BADLY_WRITTEN;
+use semantics::OUT_OF_RANGE;
 use text::Dec;
+
+// Two digits for each byte of a name; those of a float; how many variables there are; the last operator; the greatest signed number.
+pub const NAME_DIGITS: usize = 2 * semantics::NAME_LIMIT;
+
+pub const FLOAT_DIGITS: usize = 16;
+
+pub const VARIABLES: u64 = 4294967296;
+
+const LAST_OPERATOR: u64 = 19;
+
+const MOST_SIGNED: u64 = 9223372036854775807;
 
 // A variable's number.
 pub struct VarId(pub u32);
@@ -37,7 +64,7 @@ pub fn is_dash(text: &[u8]) -> bool
     if text.len() != 1 {
         return false;
     }
-    if text[0] == 45 {
+    if text[0] == DASH {
         return true;
     }
     false
@@ -48,16 +75,28 @@ fn ranged(text: &[u8], least: u64, most: u64) -> Val
     ensures { λ r. ⌜ r ≡ valOf (within least most (decimal (now (text .entry))) number) ⌝ }
 {
     match text::decimal(text) {
-        Dec::Bad => Val { why: 3, n: 0 },
-        Dec::Over => Val { why: 4, n: 0 },
+        Dec::Bad => Val {
+            why: BADLY_WRITTEN,
+            n: 0,
+        },
+        Dec::Over => Val {
+            why: OUT_OF_RANGE,
+            n: 0,
+        },
         Dec::Is(n) => {
             if n < least {
-                return Val { why: 4, n: 0 };
+                return Val {
+                    why: OUT_OF_RANGE,
+                    n: 0,
+                };
             }
             if n > most {
-                return Val { why: 4, n: 0 };
+                return Val {
+                    why: OUT_OF_RANGE,
+                    n: 0,
+                };
             }
-            Val { why: 0, n }
+            Val { why: ACCEPTED, n }
         }
     }
 }
@@ -67,9 +106,12 @@ fn optional_value(text: &[u8]) -> Val
     ensures { λ r. ⌜ r ≡ valOf (valueAt optional 0 (now (text .entry))) ⌝ }
 {
     if is_dash(text) {
-        return Val { why: 0, n: 0 };
+        return Val {
+            why: ACCEPTED,
+            n: 0,
+        };
     }
-    ranged(text, 0, 4294967295)
+    ranged(text, 0, semantics::VARIABLE_LIMIT)
 }
 
 // A name, which is to say `n`.
@@ -77,15 +119,24 @@ fn name_value(text: &[u8], n: u64) -> Val
     ensures { λ r. ⌜ (r .why ≡ whyOf (named (unhex (now (text .entry))) nameV)) × (r .n ≡ nameN (named (unhex (now (text .entry))) nameV) n) ⌝ }
 {
     if !text::all_hex(text) {
-        return Val { why: 3, n: 0 };
+        return Val {
+            why: BADLY_WRITTEN,
+            n: 0,
+        };
     }
     if text.len() % 2 != 0 {
-        return Val { why: 3, n: 0 };
+        return Val {
+            why: BADLY_WRITTEN,
+            n: 0,
+        };
     }
-    if text.len() > 510 {
-        return Val { why: 4, n: 0 };
+    if text.len() > NAME_DIGITS {
+        return Val {
+            why: OUT_OF_RANGE,
+            n: 0,
+        };
     }
-    Val { why: 0, n }
+    Val { why: ACCEPTED, n }
 }
 
 // A name, or none.
@@ -93,7 +144,10 @@ fn alias_value(text: &[u8]) -> Val
     ensures { λ r. ⌜ r ≡ valOf (valueAt alias 0 (now (text .entry))) ⌝ }
 {
     if is_dash(text) {
-        return Val { why: 0, n: 0 };
+        return Val {
+            why: ACCEPTED,
+            n: 0,
+        };
     }
     name_value(text, 1)
 }
@@ -103,19 +157,34 @@ fn bound_value(text: &[u8], l: u64) -> Val
     ensures { λ r. ⌜ r ≡ valOf (boundOf l (now (text .entry))) ⌝ }
 {
     if is_dash(text) {
-        return Val { why: 0, n: 0 };
+        return Val {
+            why: ACCEPTED,
+            n: 0,
+        };
     }
     if l == 0 {
-        return Val { why: 3, n: 0 };
+        return Val {
+            why: BADLY_WRITTEN,
+            n: 0,
+        };
     }
     match text::decimal(text) {
-        Dec::Bad => Val { why: 3, n: 0 },
-        Dec::Over => Val { why: 4, n: 0 },
+        Dec::Bad => Val {
+            why: BADLY_WRITTEN,
+            n: 0,
+        },
+        Dec::Over => Val {
+            why: OUT_OF_RANGE,
+            n: 0,
+        },
         Dec::Is(n) => {
-            if n == 18446744073709551615 {
-                return Val { why: 0, n };
+            if n == semantics::BOUND_LIMIT {
+                return Val { why: ACCEPTED, n };
             }
-            Val { why: 0, n: n + 1 }
+            Val {
+                why: ACCEPTED,
+                n: n + 1,
+            }
         }
     }
 }
@@ -125,15 +194,33 @@ fn letter_value(text: &[u8]) -> Val
     ensures { λ r. ⌜ r ≡ valOf (lettered (now (text .entry))) ⌝ }
 {
     if text.len() != 1 {
-        return Val { why: 3, n: 0 };
+        return Val {
+            why: BADLY_WRITTEN,
+            n: 0,
+        };
     }
     let b = text[0];
     match b {
-        78 => Val { why: 0, n: 0 },
-        82 => Val { why: 0, n: 1 },
-        80 => Val { why: 0, n: 2 },
-        86 => Val { why: 0, n: 3 },
-        _ => Val { why: 3, n: 0 },
+        b'N' => Val {
+            why: ACCEPTED,
+            n: 0,
+        },
+        b'R' => Val {
+            why: ACCEPTED,
+            n: 1,
+        },
+        b'P' => Val {
+            why: ACCEPTED,
+            n: 2,
+        },
+        b'V' => Val {
+            why: ACCEPTED,
+            n: 3,
+        },
+        _ => Val {
+            why: BADLY_WRITTEN,
+            n: 0,
+        },
     }
 }
 
@@ -142,18 +229,30 @@ fn negative_value(text: &[u8]) -> Val
     ensures { λ r. ⌜ r ≡ valOf (negativeOf (decimal (now (text .entry)))) ⌝ }
 {
     match text::decimal(text) {
-        Dec::Bad => Val { why: 3, n: 0 },
-        Dec::Over => Val { why: 4, n: 0 },
+        Dec::Bad => Val {
+            why: BADLY_WRITTEN,
+            n: 0,
+        },
+        Dec::Over => Val {
+            why: OUT_OF_RANGE,
+            n: 0,
+        },
         Dec::Is(n) => {
-            if n > 9223372036854775808 {
-                return Val { why: 4, n: 0 };
+            if n > semantics::SIGNED_SHIFT {
+                return Val {
+                    why: OUT_OF_RANGE,
+                    n: 0,
+                };
             }
             if n == 0 {
-                return Val { why: 3, n: 0 };
+                return Val {
+                    why: BADLY_WRITTEN,
+                    n: 0,
+                };
             }
             Val {
-                why: 0,
-                n: 9223372036854775808 - n,
+                why: ACCEPTED,
+                n: semantics::SIGNED_SHIFT - n,
             }
         }
     }
@@ -164,15 +263,24 @@ fn positive_value(text: &[u8]) -> Val
     ensures { λ r. ⌜ r ≡ valOf (positiveOf (decimal (now (text .entry)))) ⌝ }
 {
     match text::decimal(text) {
-        Dec::Bad => Val { why: 3, n: 0 },
-        Dec::Over => Val { why: 4, n: 0 },
+        Dec::Bad => Val {
+            why: BADLY_WRITTEN,
+            n: 0,
+        },
+        Dec::Over => Val {
+            why: OUT_OF_RANGE,
+            n: 0,
+        },
         Dec::Is(n) => {
-            if n > 9223372036854775807 {
-                return Val { why: 4, n: 0 };
+            if n > MOST_SIGNED {
+                return Val {
+                    why: OUT_OF_RANGE,
+                    n: 0,
+                };
             }
             Val {
-                why: 0,
-                n: 9223372036854775808 + n,
+                why: ACCEPTED,
+                n: semantics::SIGNED_SHIFT + n,
             }
         }
     }
@@ -182,9 +290,12 @@ fn signed_value(text: &[u8]) -> Val
     ensures { λ r. ⌜ r ≡ valOf (signedOf (now (text .entry))) ⌝ }
 {
     if text.len() == 0 {
-        return Val { why: 3, n: 0 };
+        return Val {
+            why: BADLY_WRITTEN,
+            n: 0,
+        };
     }
-    if text[0] == 45 {
+    if text[0] == DASH {
         return negative_value(&text[1..]);
     }
     positive_value(text)
@@ -194,13 +305,22 @@ fn signed_value(text: &[u8]) -> Val
 fn float_value(text: &[u8]) -> Val
     ensures { λ r. ⌜ r ≡ valOf (floatOf (unhex (now (text .entry)))) ⌝ }
 {
-    if text.len() != 16 {
-        return Val { why: 3, n: 0 };
+    if text.len() != FLOAT_DIGITS {
+        return Val {
+            why: BADLY_WRITTEN,
+            n: 0,
+        };
     }
     if text::all_hex(text) {
-        return Val { why: 0, n: 0 };
+        return Val {
+            why: ACCEPTED,
+            n: 0,
+        };
     }
-    Val { why: 3, n: 0 }
+    Val {
+        why: BADLY_WRITTEN,
+        n: 0,
+    }
 }
 
 // The field of a shape, where the line's second number is `l`.
@@ -208,19 +328,19 @@ pub fn read_value(text: &[u8], shape: usize, l: u64) -> Val
     ensures { λ r. ⌜ r ≡ valOf (valueAt (fieldOf shape) l (now (text .entry))) ⌝ }
 {
     match shape {
-        7 => ranged(text, 0, 4294967295),
-        8 => optional_value(text),
-        9 => name_value(text, 0),
-        10 => alias_value(text),
-        14 => float_value(text),
-        11 => bound_value(text, l),
-        12 => letter_value(text),
-        13 => signed_value(text),
-        2 => ranged(text, 0, 2),
-        3 => ranged(text, 0, 3),
-        4 => ranged(text, 0, 19),
-        5 => ranged(text, 0, 9999),
-        6 => ranged(text, 1, 1),
+        VARIABLE => ranged(text, 0, semantics::VARIABLE_LIMIT),
+        OPTIONAL => optional_value(text),
+        NAME => name_value(text, 0),
+        ALIAS => alias_value(text),
+        FLOAT => float_value(text),
+        BOUND => bound_value(text, l),
+        LETTER => letter_value(text),
+        SIGNED => signed_value(text),
+        TO_2 => ranged(text, 0, 2),
+        TO_3 => ranged(text, 0, 3),
+        TO_19 => ranged(text, 0, LAST_OPERATOR),
+        COUNT => ranged(text, 0, semantics::COUNT_LIMIT),
+        ONLY_1 => ranged(text, 1, 1),
         _ => ranged(text, 0, 1),
     }
 }
@@ -275,11 +395,11 @@ pub fn store(f: Fields, shape: usize, slots: usize, from: usize, to: usize, n: u
     ensures { λ r. ⌜ r ≡ storedIn (fieldOf shape) f slots from to n ⌝ }
 {
     match shape {
-        7 => with_var(f, n),
-        8 => with_var(f, n),
-        9 => with_name(f, from, to),
-        14 => with_name(f, from, to),
-        10 => {
+        VARIABLE => with_var(f, n),
+        OPTIONAL => with_var(f, n),
+        NAME => with_name(f, from, to),
+        FLOAT => with_name(f, from, to),
+        ALIAS => {
             let g = push(f, slots, n);
             if n == 1 { with_name(g, from, to) } else { g }
         }

@@ -3,7 +3,35 @@ ghost use mathlib.Core.Path.{_≡_};
 ghost use Prim.Native.Nat.{ℕ, _≤_, _<_};
 ghost use lib.ListN.{length};
 ghost use Rattle.line.specs.Quick.{DigitsTo, NumberAs, LimitAs, HexTo, PieceTo, GotAs, OptionalAs, Dashed};
+use crate::field::FLOAT_DIGITS;
+use crate::field::NAME_DIGITS;
+use crate::field::VARIABLES;
 use crate::field::read_value;
+use crate::packed::BEHIND_NINE;
+use crate::packed::DASH;
+use crate::packed::ZERO;
+use crate::shapes::ALIAS;
+use crate::shapes::BOUND;
+use crate::shapes::COUNT;
+use crate::shapes::FLOAT;
+use crate::shapes::LETTER;
+use crate::shapes::NAME;
+use crate::shapes::OPTIONAL;
+use crate::shapes::SIGNED;
+use crate::shapes::TO_1;
+use crate::shapes::TO_2;
+use crate::shapes::TO_3;
+use crate::shapes::TO_19;
+use crate::shapes::VARIABLE;
+use text::COMMA;
+use text::LINE_END;
+
+// A number of which ten times, and a digit more, fit 64 bits; how many operators and how many counts there are.
+const SAFE_TENTH: u64 = 1844674407370955160;
+
+const OPERATORS: u64 = 20;
+
+const COUNTS: u64 = 10000;
 
 // A field read where it stands: where it ends, inside the slice, and its number; end 0 where it could not be read at once.
 pub struct Got {
@@ -32,16 +60,16 @@ fn more_digits(sheet: &[u8], at: usize, from: usize, first: u64) -> Got
     let mut i = from;
     while i < sheet.len() {
         let b = sheet[i];
-        if b < 48 {
+        if b < b'0' {
             return Got { end: i, n };
         }
-        if b > 57 {
+        if b > b'9' {
             return not_got();
         }
-        if n > 1844674407370955160 {
+        if n > SAFE_TENTH {
             return not_got();
         }
-        n = n * 10 + (wide(b) - 48);
+        n = n * 10 + (wide(b) - ZERO);
         i += 1;
     }
     not_got()
@@ -57,22 +85,22 @@ fn number_at(sheet: &[u8], at: usize) -> Got
         return not_got();
     }
     let b = sheet[at];
-    if b < 48 {
+    if b < b'0' {
         return not_got();
     }
-    if b > 57 {
+    if b > b'9' {
         return not_got();
     }
-    if sheet[end] < 48 {
+    if sheet[end] < b'0' {
         return Got {
             end,
-            n: wide(b) - 48,
+            n: wide(b) - ZERO,
         };
     }
-    if b == 48 {
+    if b == b'0' {
         return not_got();
     }
-    more_digits(sheet, at, end, wide(b) - 48)
+    more_digits(sheet, at, end, wide(b) - ZERO)
 }
 
 // What the numbers of a shape are below; 0 where that is not all.
@@ -80,12 +108,12 @@ fn limit_of(shape: usize) -> u64
     ensures { λ r. ⌜ LimitAs shape r ⌝ }
 {
     match shape {
-        1 => 2,
-        2 => 3,
-        3 => 4,
-        4 => 20,
-        5 => 10000,
-        7 => 4294967296,
+        TO_1 => 2,
+        TO_2 => 3,
+        TO_3 => 4,
+        TO_19 => OPERATORS,
+        COUNT => COUNTS,
+        VARIABLE => VARIABLES,
         _ => 0,
     }
 }
@@ -110,15 +138,15 @@ fn hex_end(sheet: &[u8], at: usize) -> usize
     let mut i = at;
     while i < sheet.len() {
         let b = sheet[i];
-        if b < 58 {
-            if b < 48 {
+        if b < BEHIND_NINE {
+            if b < b'0' {
                 return i;
             }
         } else {
-            if b < 97 {
+            if b < b'a' {
                 return i;
             }
-            if b > 102 {
+            if b > b'f' {
                 return i;
             }
         }
@@ -139,7 +167,7 @@ pub fn name_at(sheet: &[u8], at: usize) -> Got
     if (end - at) % 2 != 0 {
         return not_got();
     }
-    if end - at > 510 {
+    if end - at > NAME_DIGITS {
         return not_got();
     }
     Got { end, n: 0 }
@@ -153,10 +181,10 @@ fn piece_end(sheet: &[u8], at: usize) -> usize
     let mut i = at;
     while i < sheet.len() {
         let b = sheet[i];
-        if b == 44 {
+        if b == COMMA {
             return i;
         }
-        if b == 10 {
+        if b == LINE_END {
             return i;
         }
         i += 1;
@@ -165,7 +193,7 @@ fn piece_end(sheet: &[u8], at: usize) -> usize
 }
 
 // A field of any shape.
-fn other_at(sheet: &[u8], at: usize, shape: usize, l: u64) -> Got
+pub fn other_at(sheet: &[u8], at: usize, shape: usize, l: u64) -> Got
     requires { ⌜ at ≤ length (now sheet) ⌝ }
     ensures { λ r. ⌜ GotAs (now (sheet .entry)) at shape l r ⌝ }
 {
@@ -189,14 +217,14 @@ fn float_at(sheet: &[u8], at: usize) -> Got
     if end >= sheet.len() {
         return not_got();
     }
-    if end - at != 16 {
+    if end - at != FLOAT_DIGITS {
         return not_got();
     }
     Got { end, n: 0 }
 }
 
 // The letter of a binding.
-fn letter_at(sheet: &[u8], at: usize) -> Got
+pub fn letter_at(sheet: &[u8], at: usize) -> Got
     requires { ⌜ at ≤ length (now sheet) ⌝ }
     ensures { λ r. ⌜ ((l : ℕ) → GotAs (now (sheet .entry)) at 12 l r) ⌝ }
 {
@@ -206,10 +234,10 @@ fn letter_at(sheet: &[u8], at: usize) -> Got
     }
     let b = sheet[at];
     match b {
-        78 => Got { end, n: 0 },
-        82 => Got { end, n: 1 },
-        80 => Got { end, n: 2 },
-        86 => Got { end, n: 3 },
+        b'N' => Got { end, n: 0 },
+        b'R' => Got { end, n: 1 },
+        b'P' => Got { end, n: 2 },
+        b'V' => Got { end, n: 3 },
         _ => not_got(),
     }
 }
@@ -220,7 +248,7 @@ fn optional_at(sheet: &[u8], at: usize) -> Got
     ensures { λ r. ⌜ ((l : ℕ) → OptionalAs (now (sheet .entry)) at l r) ⌝ }
 {
     let g = number_at(sheet, at);
-    if g.n < 4294967296 {
+    if g.n < VARIABLES {
         return g;
     }
     not_got()
@@ -235,10 +263,10 @@ fn dash_or(sheet: &[u8], at: usize, shape: usize, l: u64) -> Got
     if end >= sheet.len() {
         return not_got();
     }
-    if sheet[at] == 45 {
+    if sheet[at] == DASH {
         return Got { end, n: 0 };
     }
-    if shape == 8 {
+    if shape == OPTIONAL {
         return optional_at(sheet, at);
     }
     other_at(sheet, at, shape, l)
@@ -250,13 +278,13 @@ pub fn field_at(sheet: &[u8], at: usize, shape: usize, l: u64) -> Got
     ensures { λ r. ⌜ GotAs (now (sheet .entry)) at shape l r ⌝ }
 {
     match shape {
-        8 => dash_or(sheet, at, shape, l),
-        9 => name_at(sheet, at),
-        10 => dash_or(sheet, at, shape, l),
-        11 => dash_or(sheet, at, shape, l),
-        12 => letter_at(sheet, at),
-        13 => other_at(sheet, at, shape, l),
-        14 => float_at(sheet, at),
+        OPTIONAL => dash_or(sheet, at, shape, l),
+        NAME => name_at(sheet, at),
+        ALIAS => dash_or(sheet, at, shape, l),
+        BOUND => dash_or(sheet, at, shape, l),
+        LETTER => letter_at(sheet, at),
+        SIGNED => other_at(sheet, at, shape, l),
+        FLOAT => float_at(sheet, at),
         _ => ranged_at(sheet, at, shape),
     }
 }

@@ -1,5 +1,6 @@
 // One line of a sheet under a cursor.
 ghost use mathlib.Core.Path.{_≡_};
+ghost use mathlib.Core.Bool.{true};
 ghost use Prim.Native.Nat.{ℕ, suc, _+_, _*_, _≤_, _<_, _/_, _%_};
 ghost use lib.ListN.{length, drop};
 ghost use Rattle.semantics.specs.Bytes.{split};
@@ -7,16 +8,22 @@ ghost use Rattle.semantics.specs.Sheet.{Word, fill, bare};
 ghost use Rattle.line.specs.Rows.{codeFrom};
 ghost use Rattle.line.specs.Fields.{fieldsOf};
 ghost use Rattle.line.specs.Line.{pieces, FilledAs, seenAs, lineSays, SaysAs, ReadAs};
+ghost use Rattle.line.specs.Known.{FineAt};
 use crate::field::Fields;
 use crate::field::VarId;
 use crate::field::no_fields;
 use crate::field::read_value;
 use crate::field::store;
 use crate::in_place::wide;
+use crate::packed::BYTE;
+use crate::packed::FULL;
+use crate::packed::SHAPES;
 use crate::quick::quick;
 use crate::table::shapes_of;
 use crate::table::slots_of;
 use crate::table::word_of;
+use semantics::ACCEPTED;
+use text::COMMA;
 
 // A line's fields: what is wrong with them (0, 3 or 4), and what they say.
 pub struct Filled {
@@ -31,10 +38,10 @@ fn word_code(word: &[u8]) -> u64
     let mut code: u64 = 1;
     let mut i = 0;
     while i < word.len() {
-        if code >= 1099511627776 {
+        if code >= FULL {
             return 0;
         }
-        code = code * 256 + wide(word[i]);
+        code = code * BYTE + wide(word[i]);
         i += 1;
     }
     code
@@ -48,7 +55,7 @@ fn commas(line: &[u8], from: usize) -> usize
     let mut n = 0;
     let mut i = from;
     while i < line.len() {
-        if line[i] == 44 {
+        if line[i] == COMMA {
             n += 1;
         }
         i += 1;
@@ -67,9 +74,9 @@ fn read_fields(line: &[u8], from: usize, n: usize, shapes: u64, slots: usize) ->
     let mut j = 0;
     while j < n {
         let q = text::field_end(line, p);
-        let shape = (rest % 32) as usize;
+        let shape = (rest % SHAPES) as usize;
         let v = read_value(&line[p..q], shape, f.second);
-        if v.why != 0 {
+        if v.why != ACCEPTED {
             return Filled {
                 why: v.why,
                 fields: f,
@@ -77,10 +84,13 @@ fn read_fields(line: &[u8], from: usize, n: usize, shapes: u64, slots: usize) ->
         }
         f = store(f, shape, slots, p, q, v.n);
         p = q + 1;
-        rest = rest / 32;
+        rest = rest / SHAPES;
         j += 1;
     }
-    Filled { why: 0, fields: f }
+    Filled {
+        why: ACCEPTED,
+        fields: f,
+    }
 }
 
 // A line's number, from 1.
@@ -128,11 +138,11 @@ fn read_words(line: &[u8], at: usize, next: usize) -> Head
         return head_of(0, 3, next, no_fields());
     }
     let shapes = shapes_of(word);
-    let n = (shapes % 32) as usize;
+    let n = (shapes % SHAPES) as usize;
     if commas(line, at) != n {
         return head_of(word, 3, next, no_fields());
     }
-    let f = read_fields(line, q + 1, n, shapes / 32, slots_of(word));
+    let f = read_fields(line, q + 1, n, shapes / SHAPES, slots_of(word));
     let fields = f.fields;
     head_of(word, f.why, next, fields)
 }
@@ -149,12 +159,12 @@ fn read_any(sheet: &[u8], at: usize) -> Head
     read_words(&sheet[0..end], at, end + 1)
 }
 
-// The line at `at`.
-pub fn read_line(sheet: &[u8], at: usize) -> Head
-    requires { ⌜ at ≤ length (now sheet) ⌝ }
+// The line at `at`, known to be fine or not.
+pub fn read_line(sheet: &[u8], at: usize, fine: bool) -> Head
+    requires { ⌜ (at ≤ length (now sheet)) × (fine ≡ true → FineAt (now sheet) at) ⌝ }
     ensures { λ r. ⌜ ReadAs (now (sheet .entry)) at r (split 10 (drop at (now (sheet .entry)))) ⌝ }
 {
-    let h = quick(sheet, at);
+    let h = quick(sheet, at, fine);
     if h.word != 0 {
         return h;
     }

@@ -1,5 +1,5 @@
--- What is claimed of old lines and the call (02, ask 11). What is to be believed: `regularCall`, `oldLine` (which text is an old line of which
--- type), `Same` (what types mean, apart from any order), `typeLine` (01's strict reader).
+-- What is claimed of old lines and the call (RULES 10.3, ask 11). What is to be believed: `regularCall`, `oldLine` (which text is an old line of which
+-- type), `Same` (what types mean, apart from any order), `typeLine` (the strict reader, RULES 4.4).
 use Prim.Native.Nat.{_≤_}
 use mathlib.Core.Path.{_≡_}
 use mathlib.Core.Option.{some}
@@ -30,7 +30,7 @@ pub record RegularLines : Type 0 where
   pub same-equal : (s z work out work′ out′ r x : Bytes) → Gives s work out r → Gives z work′ out′ x → MeanSame s z → r ≡ x
   -- the same for whole calls, refused with 6 or not: lines that mean the same cannot be told apart by the answer
   pub same-call : (s z work out : Bytes) → MeanSame s z → regularCall s work out ≡ regularCall z work out
-  -- "Regular lines within 01's limits come out as they went in"
+  -- a regular line within the limits comes out as it went in (RULES 10.3)
   pub stays : (s work out : Bytes) → some? (typeLine s) ≡ true → length work ≡ workSize → oldOutput ≤ length out → Gives s work out s
   -- what is written is a regular line, and means what the old line means
   pub regular : (s work out r : Bytes) → Gives s work out r → some? (typeLine r) ≡ true

@@ -33,7 +33,7 @@ fn write_given(s: &[u8], out: &mut [u8]) -> Outcome
 {
     let n = text::append(out, 0, s);
     Outcome {
-        number: 0,
+        number: semantics::ACCEPTED,
         first: n as u64,
     }
 }
@@ -48,11 +48,11 @@ fn write_regular(s: &[u8], work: &mut [u8], out: &mut [u8]) -> Outcome
         Answer::Done { end: _, len } => {
             let n = text::append(out, 0, &work[..len]);
             Outcome {
-                number: 0,
+                number: semantics::ACCEPTED,
                 first: n as u64,
             }
         }
-        Answer::Large => refused(6),
+        Answer::Large => refused(semantics::TYPE_TOO_LARGE),
     }
 }
 
@@ -64,13 +64,13 @@ fn make_regular(s: &[u8], work: &mut [u8], out: &mut [u8]) -> Outcome
         (now (work .entry)) (now (out .entry)) (now (out .exit)) r ⌝ }
 {
     if out.len() < OLD_OUTPUT {
-        return refused(7);
+        return refused(semantics::OUTPUT_TOO_SHORT);
     }
     if ty::is_type_line(s) {
         return write_given(s, out);
     }
     if !is_old_line(s) {
-        return refused(12);
+        return refused(semantics::NO_OLD_LINE);
     }
     write_regular(s, work, out)
 }
@@ -81,11 +81,11 @@ pub fn regular_line(s: &[u8], work: &mut [u8], out: &mut [u8]) -> Outcome
         ≡ regularCall (now (s .entry)) (now (work .entry)) (now (out .entry)) ⌝ }
 {
     if work.len() != semantics::WORK_SIZE {
-        return refused(2);
+        return refused(semantics::WRONG_SIZE);
     }
     let c = make_regular(s, work, out);
     text::clear(work);
-    if c.number == 0 {
+    if c.number == semantics::ACCEPTED {
         return c;
     }
     text::clear(out);

@@ -1,8 +1,8 @@
 // Labels in any order, with repeats, as a node type at the front of the work area: each goes to its place among those that stand there.
 use crate::Answer;
-use crate::letters::CLOSE;
-use crate::letters::COMMA;
+use text::COMMA;
 use text::Order;
+use ty::CLOSE;
 use ty::Grown;
 ghost use mathlib.Core.Path.{_≡_};
 ghost use Prim.Native.Nat.{_+_, _≤_, _<_};

@@ -1,7 +1,6 @@
 // Old type lines made regular: the reader of the loose form, and the regular line of what it accepts.
 mod call;
 mod labels;
-mod letters;
 mod making;
 mod reader;
 

@@ -1,4 +1,4 @@
--- Cases of the type catalogue at its limits (02, ask 12), by computation. Assumes nothing.
+-- Cases of the type catalogue at its limits (RULES 10.4, ask 12), by computation. Assumes nothing.
 use mathlib.Core.Path.{_≡_, refl, _∙_}
 use mathlib.Core.List.{List, [], _∷_, _++_}
 use mathlib.Core.Option.{Option, none, some}

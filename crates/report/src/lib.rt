@@ -1,4 +1,4 @@
-// The lines of the report: appended to the output, what fits written, all counted (01, "The report").
+// The lines of the report: appended to the output, what fits written, all counted (RULES 6).
 ghost use mathlib.Core.Path.{_≡_};
 ghost use mathlib.Core.List.{[], _∷_};
 ghost use Prim.Native.Nat.{_+_, _<_, _^_};
@@ -11,6 +11,34 @@ ghost use Rattle.ty.specs.Read.{kindOf};
 ghost use Rattle.ty.specs.Kind.{SomeKind};
 ghost use Rattle.builtins.specs.Rows.{builtinOf};
 ghost use Rattle.report.specs.Report.{Appends, Starts, Adds, codeFault, IsCode, IsFaultCode, OpenKind, NumericKind, NumbersLine, typeText, endText};
+use text::COMMA;
+use text::LINE_END;
+use ty::ANY;
+use ty::BOOL;
+use ty::FLOAT;
+use ty::INT;
+use ty::NUM;
+use ty::STRING;
+use ty::UNKNOWN;
+
+// The codes of faults, by the names that the Rust gives them.
+// An operand of arithmetic that is no number.
+pub const E2009: u64 = 2009;
+
+// An operand of a string operator that is no String.
+pub const E2010: u64 = 2010;
+
+// An operand of a boolean operator, or a condition, that is no Bool.
+pub const E2011: u64 = 2011;
+
+// A left side of IN that has no type in common with the list's elements.
+pub const E2012: u64 = 2012;
+
+// A right side of IN that is no list.
+pub const E2013: u64 = 2013;
+
+// An argument that a built-in does not take.
+pub const E5012: u64 = 5012;
 
 // How far the output is filled, whether it fits or not, and how many faults there are.
 pub struct Tally {
@@ -34,11 +62,11 @@ fn fault_start(out: &mut [u8], fill: usize, code: u64) -> usize
     ensures { λ r. ⌜ Starts code (now (out .entry)) (now (out .exit)) fill r ⌝ }
 {
     match code {
-        2009 => text::append(out, fill, b"F,2009,"),
-        2010 => text::append(out, fill, b"F,2010,"),
-        2011 => text::append(out, fill, b"F,2011,"),
-        2012 => text::append(out, fill, b"F,2012,"),
-        2013 => text::append(out, fill, b"F,2013,"),
+        E2009 => text::append(out, fill, b"F,2009,"),
+        E2010 => text::append(out, fill, b"F,2010,"),
+        E2011 => text::append(out, fill, b"F,2011,"),
+        E2012 => text::append(out, fill, b"F,2012,"),
+        E2013 => text::append(out, fill, b"F,2013,"),
         _ => text::append(out, fill, b"F,5012,"),
     }
 }
@@ -50,7 +78,7 @@ pub fn fault(out: &mut [u8], t: Tally, code: u64, kind: u8) -> Tally
 {
     let f = fault_start(out, t.fill, code);
     let g = ty::append_type_name(out, f, kind);
-    let end = text::put(out, g, 10);
+    let end = text::put(out, g, LINE_END);
     tallied(t, end)
 }
 
@@ -59,11 +87,11 @@ pub fn fault_in(out: &mut [u8], t: Tally, kind: u8, element: u8) -> Tally
     requires { ⌜ (t .fill + 128 < 2 ^ 64) × (t .faults + 1 < 2 ^ 64) × SomeKind kind × SomeKind element ⌝ }
     ensures { λ r. ⌜ ((u v : Ty) → kindOf u ≡ kind → kindOf v ≡ element → Adds (E2012 u v ∷ []) (now (out .entry)) (now (out .exit)) t r) ⌝ }
 {
-    let f = fault_start(out, t.fill, 2012);
+    let f = fault_start(out, t.fill, E2012);
     let g = ty::append_type_name(out, f, kind);
-    let h = text::put(out, g, 44);
+    let h = text::put(out, g, COMMA);
     let i = ty::append_type_name(out, h, element);
-    let end = text::put(out, i, 10);
+    let end = text::put(out, i, LINE_END);
     tallied(t, end)
 }
 
@@ -72,13 +100,13 @@ pub fn fault_call(out: &mut [u8], t: Tally, row: usize, kind: u8) -> Tally
     requires { ⌜ (t .fill + 128 < 2 ^ 64) × (t .faults + 1 < 2 ^ 64) × (row < 7) × SomeKind kind ⌝ }
     ensures { λ r. ⌜ ((u : Ty) → kindOf u ≡ kind → (s : _) → signature (builtinOf row) .params ≡ s ∷ [] → Adds (E5012 (builtinOf row) u s ∷ []) (now (out .entry)) (now (out .exit)) t r) ⌝ }
 {
-    let f = fault_start(out, t.fill, 5012);
+    let f = fault_start(out, t.fill, E5012);
     let g = builtins::append_name(out, f, row);
-    let h = text::put(out, g, 44);
+    let h = text::put(out, g, COMMA);
     let i = ty::append_type_name(out, h, kind);
-    let j = text::put(out, i, 44);
+    let j = text::put(out, i, COMMA);
     let k = builtins::append_shape(out, j, builtins::shape_of(row));
-    let end = text::put(out, k, 10);
+    let end = text::put(out, k, LINE_END);
     tallied(t, end)
 }
 
@@ -86,10 +114,10 @@ pub fn fault_call(out: &mut [u8], t: Tally, row: usize, kind: u8) -> Tally
 pub fn is_open(kind: u8) -> bool
     ensures { λ r. ⌜ OpenKind kind r ⌝ }
 {
-    if kind == 65 {
+    if kind == ANY {
         return true;
     }
-    kind == 80
+    kind == UNKNOWN
 }
 
 // The letter of the type that arithmetic goes on with: a numeric or open type itself, else Unknown.
@@ -97,11 +125,11 @@ pub fn numeric(kind: u8) -> u8
     ensures { λ r. ⌜ NumericKind kind r ⌝ }
 {
     match kind {
-        65 => 65,
-        68 => 68,
-        69 => 69,
-        70 => 70,
-        _ => 80,
+        ANY => ANY,
+        INT => INT,
+        FLOAT => FLOAT,
+        NUM => NUM,
+        _ => UNKNOWN,
     }
 }
 
@@ -112,7 +140,7 @@ pub fn require_numeric(kind: u8, out: &mut [u8], t: Tally) -> Tally
     if numeric(kind) == kind {
         return t;
     }
-    fault(out, t, 2009, kind)
+    fault(out, t, E2009, kind)
 }
 
 pub fn require_string(kind: u8, out: &mut [u8], t: Tally) -> Tally
@@ -122,10 +150,10 @@ pub fn require_string(kind: u8, out: &mut [u8], t: Tally) -> Tally
     if is_open(kind) {
         return t;
     }
-    if kind == 71 {
+    if kind == STRING {
         return t;
     }
-    fault(out, t, 2010, kind)
+    fault(out, t, E2010, kind)
 }
 
 pub fn require_bool(kind: u8, out: &mut [u8], t: Tally) -> Tally
@@ -135,10 +163,10 @@ pub fn require_bool(kind: u8, out: &mut [u8], t: Tally) -> Tally
     if is_open(kind) {
         return t;
     }
-    if kind == 67 {
+    if kind == BOOL {
         return t;
     }
-    fault(out, t, 2011, kind)
+    fault(out, t, E2011, kind)
 }
 
 // The line of a top expression's type.
@@ -148,7 +176,7 @@ pub fn type_line(out: &mut [u8], fill: usize, text: &[u8]) -> usize
 {
     let f = text::append(out, fill, b"T,");
     let g = text::append(out, f, text);
-    text::put(out, g, 10)
+    text::put(out, g, LINE_END)
 }
 
 // A line of a head and two numbers.
@@ -158,9 +186,9 @@ pub fn numbers_line(out: &mut [u8], fill: usize, head: &[u8], first: u64, second
 {
     let f = text::append(out, fill, head);
     let g = text::append_decimal(out, f, first);
-    let h = text::put(out, g, 44);
+    let h = text::put(out, g, COMMA);
     let i = text::append_decimal(out, h, second);
-    text::put(out, i, 10)
+    text::put(out, i, LINE_END)
 }
 
 // The last line.
@@ -171,7 +199,7 @@ pub fn end_line(out: &mut [u8], fill: usize, types: u64, faults: u64) -> usize
     numbers_line(out, fill, b"end,", types, faults)
 }
 
-// What a program prints of a refusal (01, "A sheet enters"): at most 50 bytes.
+// What a program prints of a refusal (RULES 7.9): at most 50 bytes.
 pub fn refused_line(out: &mut [u8], fill: usize, number: u64, place: u64) -> usize
     requires { ⌜ fill + 64 < 2 ^ 64 ⌝ }
     ensures { λ r. ⌜ NumbersLine (text "refused,") number place (now (out .entry)) (now (out .exit)) fill r ⌝ }

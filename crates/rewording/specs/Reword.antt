@@ -1,6 +1,6 @@
 -- Demand 3: what a rewording is, when two reports agree, and what is claimed. The proof is in proofs/Theorem.antt.
 --
--- The request: "For every list of rewordings, each done on the sheet the last one left: if the sheet before the list and the one after
+-- RULES 8.5, as it was asked for: "For every list of rewordings, each done on the sheet the last one left: if the sheet before the list and the one after
 -- it are accepted, even if sheets between are refused, their two reports have the same type lines in the same order, before each the
 -- same fault lines, each as often, and the same last line; every union in them has at least two members, strictly ascending, none a
 -- union. [..] With none of these three exchanges in the list, the whole reports are equal."

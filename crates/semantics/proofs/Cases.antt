@@ -1,4 +1,4 @@
--- Document 01's thirteen cases and its whole example: one test over one list, by computation.
+-- The thirteen cases (RULES 9.2) and the whole example (RULES 6.3): one test over one list, by computation.
 use mathlib.Core.Path.{_≡_, refl}
 use mathlib.Core.List.{List, [], _∷_, _++_, map}
 use Prim.Native.Nat.{ℕ, _-_}

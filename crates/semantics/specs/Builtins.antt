@@ -1,4 +1,4 @@
--- The seven built-in functions (builtins.rs; 01, "Built-ins stand in a constant table").
+-- The seven built-in functions (builtins.rs; RULES 3.9).
 use mathlib.Core.List.{List, [], _∷_, map}
 use mathlib.Core.Option.{Option, none, some}
 use mathlib.Core.Bool.{Bool, true, false, cond, _&&_}

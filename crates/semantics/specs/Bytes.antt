@@ -1,4 +1,4 @@
--- Bytes: text literals, byte order, splitting, decimal numbers, hexadecimal names (01, "A sheet enters").
+-- Bytes: text literals, byte order, splitting, decimal numbers, hexadecimal names (RULES 2.1, 2.2).
 use mathlib.Core.List.{List, [], _∷_, _++_}
 use mathlib.Core.Option.{Option, none, some}
 use mathlib.Core.Bool.{Bool, true, false, cond, _&&_}

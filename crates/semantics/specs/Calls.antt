@@ -1,4 +1,4 @@
--- The report and the two calls: number, returned numbers and every byte of both buffers (01, "A sheet enters" and its table).
+-- The report and the two calls: number, returned numbers and every byte of both buffers (RULES 6 and 7).
 use mathlib.Core.List.{List, [], _∷_, _++_, map as mapL}
 use mathlib.Core.Option.{Option, none, some}
 use mathlib.Core.Bool.{Bool, true, false}

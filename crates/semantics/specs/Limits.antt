@@ -1,4 +1,4 @@
--- The limits of document 01, one name for each.
+-- The limits (RULES 2.2, 2.10, 4.6, 7.2, 7.6), one name for each.
 use Prim.Native.Nat.{ℕ}
 
 -- bytes of a sheet (cause 1), of the work area (cause 2), of the output that `unify` asks for (cause 7)

@@ -1,4 +1,4 @@
--- A sheet: its words, a line read as a head, a sheet read as the list of its heads, or refused with 3, 4 or 5 (01, "A sheet enters").
+-- A sheet: its words, a line read as a head, a sheet read as the list of its heads, or refused with 3, 4 or 5 (RULES 2, 7.4, 7.5).
 use mathlib.Core.List.{List, [], _∷_, _++_, map}
 use mathlib.Core.Option.{Option, none, some}
 use mathlib.Core.Bool.{Bool, true, false, cond, _&&_}

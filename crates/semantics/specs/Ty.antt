@@ -1,4 +1,4 @@
--- Types, their lines, `Type::union`, the strict reader of type lines (01, "Type lines"; ty.rs).
+-- Types, their lines, `Type::union`, the strict reader of type lines (RULES 4; ty.rs).
 use mathlib.Core.List.{List, [], _∷_, _++_, map}
 use mathlib.Core.Option.{Option, none, some}
 use mathlib.Core.Bool.{Bool, true, false, _&&_, _||_, not}

@@ -1,4 +1,4 @@
--- Unification, with the types whose size it tests, in order (unify.rs; 01, "Type lines", what is tested).
+-- Unification, with the types whose size it tests, in order (unify.rs; RULES 5 and 4.7).
 use mathlib.Core.List.{List, [], _∷_, _++_}
 use mathlib.Core.Option.{Option, none, some}
 use mathlib.Core.Bool.{Bool, true, false, _&&_, _||_}

@@ -1,4 +1,4 @@
--- The walk: what each line of a sheet comes to (infer.rs; 01, "The walk").
+-- The walk: what each line of a sheet comes to (infer.rs; RULES 3).
 use mathlib.Core.List.{List, [], _∷_, _++_, map as mapL}
 use mathlib.Core.Option.{Option, none, some}
 use mathlib.Core.Bool.{Bool, true, false, _&&_}

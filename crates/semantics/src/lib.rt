@@ -1,4 +1,20 @@
-// The limits of document 01, for the code: each constant is the limit that the definitions name, and a function says so.
+// The limits of RULES 2.2, 2.10, 4.6 and 7.2, for the code: each constant is the limit that the definitions name, and a function says so.
+mod refusals;
+
+pub use refusals::ACCEPTED;
+pub use refusals::BADLY_WRITTEN;
+pub use refusals::COUNT_USED_UP;
+pub use refusals::MISMATCH;
+pub use refusals::NO_OLD_LINE;
+pub use refusals::NO_TYPE_LINE;
+pub use refusals::NOT_LIVE;
+pub use refusals::OUT_OF_RANGE;
+pub use refusals::OUTPUT_TOO_SHORT;
+pub use refusals::SHEET_TOO_LONG;
+pub use refusals::STORE_FULL;
+pub use refusals::TOO_DEEP;
+pub use refusals::TYPE_TOO_LARGE;
+pub use refusals::WRONG_SIZE;
 ghost use mathlib.Core.Path.{_≡_};
 ghost use Rattle.semantics.specs.Limits.{sheetLimit, workSize, unifyOutput, nameLimit, countLimit, variableLimit, boundLimit, signedShift, depthLimit, typeLimit, nestingLimit};
 

@@ -1,4 +1,4 @@
-// Decimal digits without a division (02, ask 4): each digit by subtracting a power of ten from a table.
+// Decimal digits without a division (RULES 10.1, ask 4): each digit by subtracting a power of ten from a table.
 use crate::put;
 ghost use mathlib.Core.Path.{_≡_};
 ghost use Prim.Native.Nat.{_+_, _*_, _/_, _%_, _≤_, _<_, _^_};
@@ -36,18 +36,21 @@ fn power(i: usize) -> u64
     }
 }
 
+// How many digits the greatest number of 64 bits has behind its first.
+const MOST_BEHIND: usize = 19;
+
 // How many digits n has behind its first.
 fn digits_behind(n: u64) -> usize
     ensures { λ r. ⌜ Behind n r ⌝ }
 {
     let mut i = 0;
-    while i < 19 {
+    while i < MOST_BEHIND {
         if n < power(i + 1) {
             return i;
         }
         i += 1;
     }
-    19
+    MOST_BEHIND
 }
 
 // A digit, and what it leaves.
@@ -80,9 +83,9 @@ pub fn append_decimal(out: &mut [u8], fill: usize, n: u64) -> usize
     let mut at = fill;
     while i > 0 {
         let d = digit_of(m, power(i));
-        at = put(out, at, 48 + d.digit);
+        at = put(out, at, b'0' + d.digit);
         m = d.rest;
         i -= 1;
     }
-    put(out, at, 48 + m as u8)
+    put(out, at, b'0' + m as u8)
 }

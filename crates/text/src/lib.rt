@@ -12,6 +12,11 @@ ghost use Rattle.semantics.specs.Bytes.{lex, same, digit?, unhex, decimal, digi
 ghost use Rattle.semantics.specs.Builtins.{lower, folded};
 ghost use Rattle.text.specs.Text.{orderOf, hex?, digitOf, some?, grown, decOf, Ends, rotated};
 
+// What ends a field, and a line.
+pub const COMMA: u8 = b',';
+
+pub const LINE_END: u8 = 10;
+
 pub enum Order {
     Less,
     Same,
@@ -148,10 +153,10 @@ pub fn clear(s: &mut [u8])
 pub fn is_digit(b: u8) -> bool
     ensures { λ r. ⌜ r ≡ digit? b ⌝ }
 {
-    if b < 48 {
+    if b < b'0' {
         return false;
     }
-    if b <= 57 {
+    if b <= b'9' {
         return true;
     }
     false
@@ -163,38 +168,44 @@ pub fn is_hex(b: u8) -> bool
     if is_digit(b) {
         return true;
     }
-    if b < 97 {
+    if b < b'a' {
         return false;
     }
-    if b <= 102 {
+    if b <= b'f' {
         return true;
     }
     false
 }
+
+// What `a` is above its value as a digit, ten.
+const BEFORE_SMALL_A: u8 = 87;
 
 // The value of a hexadecimal digit, and 0 for any other byte.
 pub fn hex_value(b: u8) -> u8
     ensures { λ r. ⌜ r ≡ digitOf b ⌝ }
 {
     if is_digit(b) {
-        return b - 48;
+        return b - b'0';
     }
-    if b < 97 {
+    if b < b'a' {
         return 0;
     }
-    if b <= 102 {
-        return b - 87;
+    if b <= b'f' {
+        return b - BEFORE_SMALL_A;
     }
     0
 }
+
+// From a capital letter to its small one.
+const TO_SMALL: u8 = 32;
 
 // A to Z as a to z.
 pub fn fold(b: u8) -> u8
     ensures { λ r. ⌜ r ≡ lower b ⌝ }
 {
-    if b >= 65 {
-        if b <= 90 {
-            return b + 32;
+    if b >= b'A' {
+        if b <= b'Z' {
+            return b + TO_SMALL;
         }
         return b;
     }
@@ -247,18 +258,23 @@ pub enum Dec {
     Bad,
 }
 
+// What 64 bits hold, and a tenth of it.
+const MOST: u64 = 18446744073709551615;
+
+const MOST_TENTH: u64 = 1844674407370955161;
+
 // One digit more.
 fn grow(n: Dec, d: u8) -> Dec
     ensures { λ r. ⌜ r ≡ grown n d ⌝ }
 {
     match n {
         Dec::Is(k) => {
-            if k > 1844674407370955161 {
+            if k > MOST_TENTH {
                 return Dec::Over;
             }
             let d = d as u64;
             let m = k * 10;
-            if m > 18446744073709551615 - d {
+            if m > MOST - d {
                 return Dec::Over;
             }
             Dec::Is(m + d)
@@ -279,7 +295,7 @@ fn number(t: &[u8]) -> Dec
         if !is_digit(c) {
             return Dec::Bad;
         }
-        n = grow(n, c - 48);
+        n = grow(n, c - b'0');
         i += 1;
     }
     n
@@ -295,7 +311,7 @@ pub fn decimal(t: &[u8]) -> Dec
     if t.len() == 1 {
         return number(t);
     }
-    if t[0] == 48 {
+    if t[0] == b'0' {
         return Dec::Bad;
     }
     number(t)
@@ -314,7 +330,7 @@ pub fn field_end(s: &[u8], at: usize) -> usize
     requires { ⌜ at ≤ length (now s) ⌝ }
     ensures { λ r. ⌜ Ends 44 (now (s .entry)) at r ⌝ }
 {
-    seek(s, at, 44)
+    seek(s, at, COMMA)
 }
 
 // Where the line at `at` ends: its LF, or the end of the slice.
@@ -322,5 +338,5 @@ pub fn line_end(s: &[u8], at: usize) -> usize
     requires { ⌜ at ≤ length (now s) ⌝ }
     ensures { λ r. ⌜ Ends 10 (now (s .entry)) at r ⌝ }
 {
-    seek(s, at, 10)
+    seek(s, at, LINE_END)
 }

@@ -8,6 +8,24 @@ ghost use Rattle.ty.specs.Parts.{TypeFrom, EndsAt};
 ghost use Rattle.semantics.specs.Ty.{Ty, line, tooLarge};
 ghost use Rattle.ty.specs.Read.{fieldAt, letterAt, contentOf, goesIn, valueAt, NestingEnd};
 ghost use Rattle.ty.specs.Skip.{openedBy, goesOn, nextField, SkipAt, Stepped};
+use crate::letters::ANY;
+use crate::letters::BOOL;
+use crate::letters::CLOSE;
+use crate::letters::DATE;
+use crate::letters::DATETIME;
+use crate::letters::FLOAT;
+use crate::letters::INT;
+use crate::letters::LIST;
+use crate::letters::MAP;
+use crate::letters::NODE;
+use crate::letters::NULL;
+use crate::letters::NUM;
+use crate::letters::PATH;
+use crate::letters::RELATIONSHIP;
+use crate::letters::STRING;
+use crate::letters::UNION;
+use crate::letters::UNKNOWN;
+use text::COMMA;
 
 // Where a type ends, or that there is none.
 pub enum TypeEnd {
@@ -29,10 +47,10 @@ fn opened(c: u8, depth: usize) -> usize
     ensures { λ r. ⌜ r ≡ openedBy c depth ⌝ }
 {
     match c {
-        33 => depth - 1,
-        75 => depth + 1,
-        76 => depth + 1,
-        79 => depth + 1,
+        CLOSE => depth - 1,
+        MAP => depth + 1,
+        NODE => depth + 1,
+        UNION => depth + 1,
         _ => depth,
     }
 }
@@ -41,7 +59,7 @@ fn opened(c: u8, depth: usize) -> usize
 fn goes_on(c: u8, depth: usize) -> bool
     ensures { λ r. ⌜ r ≡ goesOn c depth ⌝ }
 {
-    if c == 74 {
+    if c == LIST {
         return true;
     }
     depth > 0
@@ -52,7 +70,7 @@ fn relationship_end(s: &[u8], q: usize) -> usize
     requires { ⌜ SkipAt (now s) q × (getD (now s) q 0 ≡ 77) ⌝ }
     ensures { λ r. ⌜ Stepped (now (s .entry)) q r ⌝ }
 {
-    if s[q + 2] == 33 {
+    if s[q + 2] == CLOSE {
         return q + 4;
     }
     next_field(s, q + 4)
@@ -63,7 +81,7 @@ fn skip_field(s: &[u8], q: usize) -> usize
     requires { ⌜ SkipAt (now s) q ⌝ }
     ensures { λ r. ⌜ Stepped (now (s .entry)) q r ⌝ }
 {
-    if s[q] == 77 {
+    if s[q] == RELATIONSHIP {
         return relationship_end(s, q);
     }
     next_field(s, q)
@@ -99,7 +117,7 @@ pub fn is_field(s: &[u8], q: usize, b: u8) -> bool
     if s[q] != b {
         return false;
     }
-    s[q + 1] == 44
+    s[q + 1] == COMMA
 }
 
 // The letter that is the field at q, 0 where it is none.
@@ -112,34 +130,45 @@ pub fn letter(s: &[u8], q: usize) -> u8
     if s.len() - q < 2 {
         return 0;
     }
-    if s[q + 1] != 44 {
+    if s[q + 1] != COMMA {
         return 0;
     }
     s[q]
 }
 
-// What stands behind a letter: 0 no type, 1 nothing, 2 labels, 3 a name, 4 types.
+// What stands behind a letter.
+pub const NO_TYPE: u8 = 0;
+
+pub const NOTHING: u8 = 1;
+
+pub const LABELS: u8 = 2;
+
+pub const NAME: u8 = 3;
+
+pub const TYPES: u8 = 4;
+
+// What stands behind the letter k.
 pub fn content(k: u8) -> u8
     ensures { λ r. ⌜ r ≡ contentOf k ⌝ }
 {
     match k {
-        65 => 1,
-        66 => 1,
-        67 => 1,
-        68 => 1,
-        69 => 1,
-        70 => 1,
-        71 => 1,
-        72 => 1,
-        73 => 1,
-        74 => 4,
-        75 => 4,
-        76 => 2,
-        77 => 3,
-        78 => 1,
-        79 => 4,
-        80 => 1,
-        _ => 0,
+        ANY => NOTHING,
+        NULL => NOTHING,
+        BOOL => NOTHING,
+        INT => NOTHING,
+        FLOAT => NOTHING,
+        NUM => NOTHING,
+        STRING => NOTHING,
+        DATE => NOTHING,
+        DATETIME => NOTHING,
+        LIST => TYPES,
+        MAP => TYPES,
+        NODE => LABELS,
+        RELATIONSHIP => NAME,
+        PATH => NOTHING,
+        UNION => TYPES,
+        UNKNOWN => NOTHING,
+        _ => NO_TYPE,
     }
 }
 
@@ -147,10 +176,10 @@ pub fn content(k: u8) -> u8
 pub fn part_follows(s: &[u8], k: u8, q: usize, n: usize) -> bool
     ensures { λ r. ⌜ r ≡ goesIn k (now (s .entry)) q n ⌝ }
 {
-    if k == 74 {
+    if k == LIST {
         return n == 0;
     }
-    !is_field(s, q, 33)
+    !is_field(s, q, CLOSE)
 }
 
 // Where the type of the part at q begins: behind the name of a map's entry.
@@ -158,7 +187,7 @@ pub fn value_at(s: &[u8], k: u8, q: usize) -> usize
     requires { ⌜ q ≤ length (now s) ⌝ }
     ensures { λ r. ⌜ r ≡ valueAt k (now (s .entry)) q ⌝ }
 {
-    if k != 75 {
+    if k != MAP {
         return q;
     }
     let e = text::field_end(s, q);
@@ -177,7 +206,7 @@ pub fn nesting_end(s: &[u8], at: usize, left: usize) -> TypeEnd
         return TypeEnd::Bad;
     }
     let k = s[at];
-    if content(k) < 4 {
+    if content(k) < TYPES {
         return TypeEnd::End(type_end(s, at));
     }
     let mut q = at + 2;
@@ -194,7 +223,7 @@ pub fn nesting_end(s: &[u8], at: usize, left: usize) -> TypeEnd
         }
         n += 1;
     }
-    if k == 74 {
+    if k == LIST {
         return TypeEnd::End(q);
     }
     TypeEnd::End(q + 2)

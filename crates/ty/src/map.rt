@@ -6,6 +6,7 @@ ghost use Rattle.ty.specs.Entry.{SomeMap, Spotted, Fronted, insertedAt, 
 use crate::Grown;
 use crate::end::fits;
 use crate::end::type_end;
+use text::COMMA;
 use text::Order;
 
 // Where an entry goes, or the value of the entry that has its name.
@@ -53,7 +54,7 @@ pub fn insert_entry(part: &mut [u8], len: usize, end: usize, p: usize, name: &[u
     }
     text::slide_up(part, p, p + k, end - p);
     let c = text::append(part, p, name);
-    part[c] = 44;
+    part[c] = COMMA;
     text::rotate(part, p + k, len + k, end + k);
     Grown::Len(end + k)
 }

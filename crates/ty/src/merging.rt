@@ -4,6 +4,7 @@ ghost use Prim.Native.Nat.{_+_, _≤_, _<_, _^_};
 ghost use lib.ListN.{length};
 ghost use Rattle.ty.specs.Merging.{SomeHead, NextIs, SomeName, NameLong, keptOf, keptText, takenAt, moved, Taking, closedOf, closedText};
 use crate::Grown;
+use crate::letters::CLOSE;
 use text::Order;
 
 // Where each list goes on, and how long the line is that is kept (0: over).
@@ -18,13 +19,13 @@ pub fn next_name(s: &[u8], p: usize, q: usize) -> u8
     requires { ⌜ SomeHead (now s) p × SomeHead (now s) q ⌝ }
     ensures { λ r. ⌜ NextIs (now (s .entry)) p q r ⌝ }
 {
-    if s[p] == 33 {
-        if s[q] == 33 {
+    if s[p] == CLOSE {
+        if s[q] == CLOSE {
             return 3;
         }
         return 1;
     }
-    if s[q] == 33 {
+    if s[q] == CLOSE {
         return 0;
     }
     let pe = text::field_end(s, p);

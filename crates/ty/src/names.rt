@@ -4,6 +4,7 @@ ghost use Prim.Native.Nat.{_+_, _≤_, _<_, _^_};
 ghost use lib.ListN.{length};
 ghost use lib.Seq.{sets, slice};
 ghost use Rattle.ty.specs.Kind.{SomeKind, nameEnd, NameWritten};
+use crate::letters::ANY;
 
 // Where each name begins and ends, in the order of the kind letters.
 const NAME_ENDS: [usize; 17] = [
@@ -47,7 +48,7 @@ pub fn append_type_name(out: &mut [u8], fill: usize, k: u8) -> usize
     ensures { λ r. ⌜ NameWritten (now (out .entry)) (now (out .exit)) fill k r ⌝ }
 {
     let names = b"AnyNullBoolIntFloatNumStringDateDatetimeListMapNodeRelationshipPathUnionUnknown";
-    let i = (k - 65) as usize;
+    let i = (k - ANY) as usize;
     let a = name_end(i);
     let e = name_end(i + 1);
     append_part(out, fill, names, a, e)

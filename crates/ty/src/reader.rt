@@ -1,4 +1,8 @@
 // The strict reader of type lines, field by field.
+use crate::end::LABELS;
+use crate::end::NO_TYPE;
+use crate::end::NOTHING;
+use crate::end::TYPES;
 use crate::end::TypeEnd;
 use crate::end::content;
 use crate::end::is_field;
@@ -6,6 +10,11 @@ use crate::end::letter;
 use crate::end::next_field;
 use crate::end::part_follows;
 use crate::end::value_at;
+use crate::letters::CLOSE;
+use crate::letters::LIST;
+use crate::letters::MAP;
+use crate::letters::OPEN;
+use crate::letters::UNION;
 use text::Order;
 ghost use mathlib.Core.Path.{_≡_};
 ghost use mathlib.Core.Bool.{true};
@@ -16,6 +25,9 @@ ghost use Rattle.text.specs.Text.{some?};
 ghost use Rattle.semantics.specs.Ty.{typeLine};
 ghost use Rattle.ty.specs.Read.{fieldAt, letterAt, contentOf, inOrder, nameIn, keyOf, allowed, endOf, LabelsRead, NodeRead, RelRead, TypeRead};
 
+// Two digits for each byte of a name.
+const NAME_DIGITS: usize = 2 * semantics::NAME_LIMIT;
+
 // Whether [at..end) is a name: pairs of lowercase hexadecimal digits, at most 255 bytes, and a comma behind it.
 pub fn is_name(s: &[u8], at: usize, end: usize) -> bool
     requires { ⌜ (at ≤ end) × (end ≤ length (now s)) ⌝ }
@@ -24,7 +36,7 @@ pub fn is_name(s: &[u8], at: usize, end: usize) -> bool
     if s.len() <= end {
         return false;
     }
-    if end - at > 510 {
+    if end - at > NAME_DIGITS {
         return false;
     }
     if (end - at) % 2 != 0 {
@@ -65,7 +77,7 @@ fn member_allowed(s: &[u8], prev: usize, q: usize, e: usize, n: usize) -> bool
     requires { ⌜ (prev ≤ q) × (q < e) × (e ≤ length (now s)) ⌝ }
     ensures { λ r. ⌜ r ≡ allowed 79 (now (s .entry)) prev q e n ⌝ }
 {
-    if s[q] == 79 {
+    if s[q] == UNION {
         return false;
     }
     in_order(s, prev, q, q, e, n)
@@ -76,10 +88,10 @@ fn part_allowed(s: &[u8], k: u8, prev: usize, q: usize, e: usize, n: usize) -> b
     requires { ⌜ (prev ≤ q) × (q < e) × (e ≤ length (now s)) ⌝ }
     ensures { λ r. ⌜ r ≡ allowed k (now (s .entry)) prev q e n ⌝ }
 {
-    if k == 75 {
+    if k == MAP {
         return name_allowed(s, prev, q, n);
     }
-    if k == 79 {
+    if k == UNION {
         return member_allowed(s, prev, q, e, n);
     }
     true
@@ -93,7 +105,7 @@ fn read_labels(s: &[u8], at: usize) -> TypeEnd
     let mut prev = at;
     let mut q = at;
     let mut n = 0;
-    while !is_field(s, q, 33) {
+    while !is_field(s, q, CLOSE) {
         if !name_allowed(s, prev, q, n) {
             return TypeEnd::Bad;
         }
@@ -108,10 +120,10 @@ fn read_labels(s: &[u8], at: usize) -> TypeEnd
 fn read_node(s: &[u8], at: usize) -> TypeEnd
     ensures { λ r. ⌜ NodeRead (now (s .entry)) at r ⌝ }
 {
-    if is_field(s, at, 33) {
+    if is_field(s, at, CLOSE) {
         return TypeEnd::End(at + 2);
     }
-    if is_field(s, at, 43) {
+    if is_field(s, at, OPEN) {
         return read_labels(s, at + 2);
     }
     TypeEnd::Bad
@@ -121,10 +133,10 @@ fn read_node(s: &[u8], at: usize) -> TypeEnd
 pub fn read_relationship(s: &[u8], at: usize) -> TypeEnd
     ensures { λ r. ⌜ RelRead (now (s .entry)) at r ⌝ }
 {
-    if is_field(s, at, 33) {
+    if is_field(s, at, CLOSE) {
         return TypeEnd::End(at + 2);
     }
-    if !is_field(s, at, 43) {
+    if !is_field(s, at, OPEN) {
         return TypeEnd::Bad;
     }
     let e = text::field_end(s, at + 2);
@@ -140,9 +152,9 @@ fn read_flat(s: &[u8], at: usize, c: u8) -> TypeEnd
     ensures { λ r. ⌜ ((l : ℕ) → 1 ≤ l → TypeRead true (now (s .entry)) at l r) ⌝ }
 {
     match c {
-        0 => TypeEnd::Bad,
-        1 => TypeEnd::End(at + 2),
-        2 => read_node(s, at + 2),
+        NO_TYPE => TypeEnd::Bad,
+        NOTHING => TypeEnd::End(at + 2),
+        LABELS => read_node(s, at + 2),
         _ => read_relationship(s, at + 2),
     }
 }
@@ -152,10 +164,10 @@ fn end_of(k: u8, q: usize, n: usize) -> TypeEnd
     requires { ⌜ q + 2 < 2 ^ 64 ⌝ }
     ensures { λ r. ⌜ r ≡ endOf k q n ⌝ }
 {
-    if k == 74 {
+    if k == LIST {
         return TypeEnd::End(q);
     }
-    if k == 79 {
+    if k == UNION {
         if n < 2 {
             return TypeEnd::Bad;
         }
@@ -174,7 +186,7 @@ fn read_type(s: &[u8], at: usize, left: usize) -> TypeEnd
     }
     let k = letter(s, at);
     let c = content(k);
-    if c < 4 {
+    if c < TYPES {
         return read_flat(s, at, c);
     }
     let mut prev = at + 2;

@@ -6,6 +6,9 @@ ghost use Rattle.ty.specs.Union.{Placing, Placed, Pending, InsertedAny, 
 use crate::Grown;
 use crate::end::fits;
 use crate::end::type_end;
+use crate::letters::CLOSE;
+use crate::letters::UNION;
+use text::COMMA;
 use text::Order;
 
 // Where a member goes, or that it is there already.
@@ -101,7 +104,7 @@ pub fn add_union(part: &mut [u8], len: usize, end: usize) -> Grown
     requires { ⌜ Placing (now part) len end ⌝ }
     ensures { λ r. ⌜ AddedOpened (now (part .entry)) (now (part .exit)) len end r ⌝ }
 {
-    if part[len] == 79 {
+    if part[len] == UNION {
         let m = end - len - 4;
         text::copy_in(part, len + 2, len, m);
         return add_members(part, len, len + m);
@@ -115,10 +118,10 @@ fn wrap_union(part: &mut [u8], len: usize) -> usize
     ensures { λ r. ⌜ (r ≡ len + 4) × (now (part .exit) ≡ wrapped len (now (part .entry))) ⌝ }
 {
     text::slide_up(part, 0, 2, len);
-    part[0] = 79;
-    part[1] = 44;
-    part[len + 2] = 33;
-    part[len + 3] = 44;
+    part[0] = UNION;
+    part[1] = COMMA;
+    part[len + 2] = CLOSE;
+    part[len + 3] = COMMA;
     len + 4
 }
 

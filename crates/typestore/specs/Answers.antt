@@ -1,4 +1,4 @@
--- What the program prints of a call on a store (02, ask 12; docs/DECISIONS.md, 66).
+-- What the program prints of a call on a store (RULES 10.4, ask 12; docs/DECISIONS.md, 66).
 use mathlib.Core.Path.{_≡_}
 use mathlib.Core.List.{List, [], _∷_, _++_}
 use mathlib.Core.Option.{none, some}

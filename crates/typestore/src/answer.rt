@@ -18,7 +18,7 @@ fn say(out: &mut [u8], word: &[u8], c: catalogue::Call, first: u64, second: u64)
     ensures { λ r. ⌜ Says 64 (numbersText (now (word .entry)) first second) (c .number) (c .first) (now (out .entry)) (now (out .exit)) r ⌝ }
 {
     let number = c.number;
-    if number == 0 {
+    if number == semantics::ACCEPTED {
         return Said {
             number: number,
             length: report::numbers_line(out, 0, word, first, second),

@@ -7,6 +7,8 @@ ghost use Rattle.catalogue.specs.Stands.{Opened};
 ghost use Rattle.report.specs.Report.{Appends};
 ghost use Rattle.typestore.specs.Answers.{lineText, Says, Lines, Lists};
 use crate::answer::Said;
+use text::COMMA;
+use text::LINE_END;
 
 // How far the output is filled, and how many types there are.
 pub struct Listed {
@@ -22,11 +24,11 @@ pub fn live_line(out: &mut [u8], fill: usize, number: u64, uses: u64, line: &[u8
 {
     let a = text::append(out, fill, b"live,");
     let b = text::append_decimal(out, a, number);
-    let c = text::put(out, b, 44);
+    let c = text::put(out, b, COMMA);
     let d = text::append_decimal(out, c, uses);
-    let e = text::put(out, d, 44);
+    let e = text::put(out, d, COMMA);
     let f = text::append(out, e, line);
-    text::put(out, f, 10)
+    text::put(out, f, LINE_END)
 }
 
 fn lines(store: &[u8], end: usize, out: &mut [u8]) -> Listed
@@ -56,18 +58,21 @@ fn list_all(store: &[u8], last: usize, end: usize, out: &mut [u8]) -> Said
 {
     let l = lines(store, end, out);
     Said {
-        number: 0,
+        number: semantics::ACCEPTED,
         length: report::numbers_line(out, l.fill, b"end,", l.types, last as u64),
     }
 }
+
+// The refusal of bytes that are no store.
+const NO_STORE: u64 = 2;
 
 // A store that has not the form.
 fn no_store(out: &mut [u8]) -> Said
     ensures { λ r. ⌜ Says 64 [] 2 0 (now (out .entry)) (now (out .exit)) r ⌝ }
 {
     Said {
-        number: 2,
-        length: report::refused_line(out, 0, 2, 0),
+        number: semantics::WRONG_SIZE,
+        length: report::refused_line(out, 0, NO_STORE, 0),
     }
 }
 

@@ -58,7 +58,7 @@ fn failed(what: &[u8]) {
 // What came of a call; a file that is no catalogue is named on standard error.
 fn say(path: &[u8], number: u32, text: &[u8]) {
     io::write_all(STDOUT_FILENO, text);
-    if number == 2 {
+    if number == semantics::WRONG_SIZE {
         io::write_all(STDERR_FILENO, path);
         io::write_all(STDERR_FILENO, b": no catalogue\n");
     }
@@ -106,7 +106,7 @@ fn call(verb: Verb, word: &[u8], store: &mut [u8], out: &mut [u8]) -> Said
         Verb::Show => show(store, number(word), out),
         Verb::List => list(store, out),
         Verb::Nothing => Said {
-            number: 0,
+            number: semantics::ACCEPTED,
             length: 0,
         },
     }
@@ -184,7 +184,7 @@ fn settle(
     let number = said.number;
     let end = said.length;
     let mut is_new = false;
-    if number == 0 {
+    if number == semantics::ACCEPTED {
         is_new = replace(fd, path, beside, store);
         if !is_new {
             return false;

@@ -3,13 +3,53 @@ ghost use mathlib.Core.Bool.{_&&_};
 ghost use mathlib.Core.Path.{_≡_};
 ghost use Rattle.unify.specs.Letters.{numeric, armOfKind, armOfKinds, armOfUnequal};
 ghost use Rattle.unify.specs.Steps.{TwoTypes, ArmIs};
+use ty::ANY;
+use ty::INT;
+use ty::LIST;
+use ty::MAP;
+use ty::NODE;
+use ty::NULL;
+use ty::NUM;
+use ty::RELATIONSHIP;
+use ty::UNION;
+use ty::UNKNOWN;
+
+// The arms: the answer is one of the two, or Unknown; Null and another; two numbers, lists, maps, nodes, relationships; two unions, one
+// union; two types that do not unify.
+pub const LEFT: u8 = 0;
+
+pub const RIGHT: u8 = 1;
+
+pub const ANY_UNKNOWN: u8 = 2;
+
+pub const NULL_LEFT: u8 = 3;
+
+pub const NULL_RIGHT: u8 = 4;
+
+pub const NUMBERS: u8 = 5;
+
+pub const LISTS: u8 = 6;
+
+pub const MAPS: u8 = 7;
+
+pub const NODES: u8 = 8;
+
+pub const RELATIONSHIPS: u8 = 9;
+
+pub const UNIONS: u8 = 10;
+
+pub const UNION_LEFT: u8 = 11;
+
+pub const UNION_RIGHT: u8 = 12;
+
+pub const APART: u8 = 13;
 
 // Int, Float, Num.
 fn is_numeric(k: u8) -> bool
     ensures { λ r. ⌜ r ≡ numeric k ⌝ }
 {
     match k {
-        68..=70 => true,
+        INT..=NUM => true,
         _ => false,
     }
 }
@@ -28,12 +68,12 @@ fn arm_of_kind(k: u8) -> u8
     ensures { λ r. ⌜ r ≡ armOfKind k ⌝ }
 {
     match k {
-        74 => 6,
-        75 => 7,
-        76 => 8,
-        77 => 9,
-        79 => 10,
-        _ => 13,
+        LIST => LISTS,
+        MAP => MAPS,
+        NODE => NODES,
+        RELATIONSHIP => RELATIONSHIPS,
+        UNION => UNIONS,
+        _ => APART,
     }
 }
 
@@ -42,26 +82,26 @@ fn arm_of_kinds(j: u8, k: u8) -> u8
     ensures { λ r. ⌜ r ≡ armOfKinds j k ⌝ }
 {
     if both_numeric(j, k) {
-        return 5;
+        return NUMBERS;
     }
-    if j == 79 {
-        return 11;
+    if j == UNION {
+        return UNION_LEFT;
     }
-    if k == 79 {
-        return 12;
+    if k == UNION {
+        return UNION_RIGHT;
     }
-    13
+    APART
 }
 
 // The arm of two types that are not equal, none Any or Unknown.
 fn arm_of_unequal(j: u8, k: u8) -> u8
     ensures { λ r. ⌜ r ≡ armOfUnequal j k ⌝ }
 {
-    if j == 66 {
-        return 3;
+    if j == NULL {
+        return NULL_LEFT;
     }
-    if k == 66 {
-        return 4;
+    if k == NULL {
+        return NULL_RIGHT;
     }
     if j == k {
         return arm_of_kind(k);
@@ -76,20 +116,20 @@ pub fn arm(work: &[u8], a: usize, ae: usize, b: usize, be: usize) -> u8
 {
     let j = work[a];
     let k = work[b];
-    if j == 65 {
-        return 1;
+    if j == ANY {
+        return RIGHT;
     }
-    if k == 65 {
-        return 0;
+    if k == ANY {
+        return LEFT;
     }
-    if j == 80 {
-        return 2;
+    if j == UNKNOWN {
+        return ANY_UNKNOWN;
     }
-    if k == 80 {
-        return 2;
+    if k == UNKNOWN {
+        return ANY_UNKNOWN;
     }
     if text::same_in(work, a, ae, b, be) {
-        return 0;
+        return LEFT;
     }
     arm_of_unequal(j, k)
 }

@@ -9,16 +9,30 @@ ghost use Rattle.unify.specs.Made.{SomeMade, Tested, SomeUnion, ClosedUn
 ghost use Rattle.unify.specs.Flat.{SomeOperand, OneAnswer, Written, SomeTypes, NullAnswer, SomeNodes, NodesAnswer};
 ghost use Rattle.unify.specs.Steps.{ArmReady, FlatAnswer};
 use crate::Unified;
+use crate::arms::ANY_UNKNOWN;
+use crate::arms::LEFT;
+use crate::arms::LISTS;
+use crate::arms::MAPS;
+use crate::arms::NODES;
+use crate::arms::NULL_LEFT;
+use crate::arms::NULL_RIGHT;
+use crate::arms::NUMBERS;
+use crate::arms::RELATIONSHIPS;
+use crate::arms::RIGHT;
+use crate::arms::UNION_RIGHT;
+use crate::arms::UNIONS;
+use ty::CLOSE;
 use ty::Grown;
+use ty::UNION;
 
 // Whether an arm needs inner answers.
 pub fn has_parts(arm: u8) -> bool
     ensures { λ r. ⌜ r ≡ hasParts arm ⌝ }
 {
     match arm {
-        6 => true,
-        7 => true,
-        10..=12 => true,
+        LISTS => true,
+        MAPS => true,
+        UNIONS..=UNION_RIGHT => true,
         _ => false,
     }
 }
@@ -83,7 +97,7 @@ fn nullable(work: &mut [u8], t: usize, te: usize, mark: usize) -> Unified
     requires { ⌜ SomeOperand (now work) t te mark ⌝ }
     ensures { λ r. ⌜ OneAnswer nullableRun (now (work .entry)) (now (work .exit)) t te mark r ⌝ }
 {
-    if work[t] == 79 {
+    if work[t] == UNION {
         return with_null(work, t + 2, te - t - 4, mark);
     }
     with_null(work, t, te - t, mark)
@@ -94,10 +108,10 @@ fn unify_label_sets(work: &mut [u8], a: usize, b: usize, mark: usize) -> Unified
     requires { ⌜ SomeNodes (now work) a b mark ⌝ }
     ensures { λ r. ⌜ NodesAnswer (now (work .entry)) (now (work .exit)) a b mark r ⌝ }
 {
-    if work[a + 2] == 33 {
+    if work[a + 2] == CLOSE {
         return fixed(work, mark, b"L,!,");
     }
-    if work[b + 2] == 33 {
+    if work[b + 2] == CLOSE {
         return fixed(work, mark, b"L,!,");
     }
     match ty::merge_labels(work, a, b, mark) {
@@ -120,14 +134,14 @@ pub fn unify_flat(
     ensures { λ r. ⌜ FlatAnswer (now (work .entry)) (now (work .exit)) arm a ae b be mark r ⌝ }
 {
     match arm {
-        0 => copied(work, a, ae, mark),
-        1 => copied(work, b, be, mark),
-        2 => fixed(work, mark, b"P,"),
-        3 => nullable(work, b, be, mark),
-        4 => nullable(work, a, ae, mark),
-        5 => fixed(work, mark, b"F,"),
-        8 => unify_label_sets(work, a, b, mark),
-        9 => fixed(work, mark, b"M,!,"),
+        LEFT => copied(work, a, ae, mark),
+        RIGHT => copied(work, b, be, mark),
+        ANY_UNKNOWN => fixed(work, mark, b"P,"),
+        NULL_LEFT => nullable(work, b, be, mark),
+        NULL_RIGHT => nullable(work, a, ae, mark),
+        NUMBERS => fixed(work, mark, b"F,"),
+        NODES => unify_label_sets(work, a, b, mark),
+        RELATIONSHIPS => fixed(work, mark, b"M,!,"),
         _ => Unified::Mismatch { a, ae, b, be },
     }
 }

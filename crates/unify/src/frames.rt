@@ -5,7 +5,12 @@ ghost use Rattle.unify.specs.Arms.{hasParts};
 ghost use Rattle.unify.specs.Work.{Ready, Unifies};
 ghost use Rattle.unify.specs.Steps.{ArmReady, Started, SomePair, Stepped, SomeEnd, Finished};
 use crate::Frame;
+use crate::NOT_UNIFIED;
+use crate::NOTHING_LEFT;
+use crate::PAIR;
 use crate::Unified;
+use crate::arms::LISTS;
+use crate::arms::MAPS;
 use crate::arms::arm;
 use crate::flat::has_parts;
 use crate::flat::unify_flat;
@@ -26,8 +31,8 @@ fn start(work: &mut [u8], arm: u8, a: usize, ae: usize, b: usize, be: usize, mar
     ensures { λ r. ⌜ Started (now (work .entry)) (now (work .exit)) arm a ae b be mark r ⌝ }
 {
     match arm {
-        6 => start_list(work, arm, a, ae, b, be, mark),
-        7 => start_map(work, arm, a, ae, b, be, mark),
+        LISTS => start_list(work, arm, a, ae, b, be, mark),
+        MAPS => start_map(work, arm, a, ae, b, be, mark),
         _ => start_union(work, arm, a, ae, b, be, mark),
     }
 }
@@ -39,8 +44,8 @@ fn step(work: &mut [u8], f: Frame, u: Unified, mark: usize) -> Frame
 {
     let kind = f.kind;
     match kind {
-        6 => step_list(work, f, u, mark),
-        7 => step_map(work, f, u, mark),
+        LISTS => step_list(work, f, u, mark),
+        MAPS => step_map(work, f, u, mark),
         _ => step_union(work, f, u, mark),
     }
 }
@@ -52,8 +57,8 @@ fn finish_done(work: &mut [u8], f: Frame, mark: usize) -> Unified
 {
     let kind = f.kind;
     match kind {
-        6 => finish_list(work, f, mark),
-        7 => finish_map(work, f, mark),
+        LISTS => finish_list(work, f, mark),
+        MAPS => finish_map(work, f, mark),
         _ => finish_union(work, f, mark),
     }
 }
@@ -65,8 +70,8 @@ fn finish(work: &mut [u8], f: Frame, mark: usize) -> Unified
 {
     let go = f.go;
     match go {
-        2 => finish_done(work, f, mark),
-        3 => Unified::Mismatch {
+        NOTHING_LEFT => finish_done(work, f, mark),
+        NOT_UNIFIED => Unified::Mismatch {
             a: f.v,
             ae: f.ve,
             b: f.w,
@@ -76,7 +81,10 @@ fn finish(work: &mut [u8], f: Frame, mark: usize) -> Unified
     }
 }
 
-// Unifies [a..ae) and [b..be), both below the mark; the answer from the mark on. A pair of parts is lent one slot of 1,024 bytes less
+// Behind the mark of a pair of parts so much less is lent: what a type takes at most.
+const SLOT: usize = 1024;
+
+// Unifies [a..ae) and [b..be), both below the mark; the answer from the mark on. A pair of parts is lent one slot less
 // behind its own mark, so that the recursion ends.
 pub fn unify(work: &mut [u8], a: usize, ae: usize, b: usize, be: usize, mark: usize) -> Unified
     requires { ⌜ Ready (now work) a ae b be mark ⌝ }
@@ -87,10 +95,10 @@ pub fn unify(work: &mut [u8], a: usize, ae: usize, b: usize, be: usize, mark: us
         return unify_flat(work, r, a, ae, b, be, mark);
     }
     let mut f = start(work, r, a, ae, b, be, mark);
-    while f.go < 2 {
-        if f.go == 0 {
+    while f.go < NOTHING_LEFT {
+        if f.go == PAIR {
             let at = f.at;
-            let e = at + (work.len() - mark - 1024);
+            let e = at + (work.len() - mark - SLOT);
             let u = unify(&mut work[..e], f.v, f.ve, f.w, f.we, at);
             f = step(work, f, u, mark);
         } else {

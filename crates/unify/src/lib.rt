@@ -21,10 +21,20 @@ pub enum Unified {
     TooLarge,
 }
 
+// What is next in a frame: a pair of parts, or an outer type that meets no variant; or how it ends.
+pub const PAIR: u8 = 0;
+
+pub const OUTER_ALONE: u8 = 1;
+
+pub const NOTHING_LEFT: u8 = 2;
+
+pub const NOT_UNIFIED: u8 = 3;
+
+pub const LARGE: u8 = 4;
+
 // What is to be unified next, [v..ve) with [w..we), its answer from `at` on; and what is kept at the mark, n bytes: `J,`, the map so far
 // (0: over), or the running union. A map goes on at ve and we; a union with the outer types from p to pe and the variants from i to ie.
-// `kind` is the arm: 6 lists, 7 maps, 10 unions. `go` says what is next: 0 a pair, 1 an outer type that meets no variant, 2 nothing is
-// left, 3 the pair does not unify, 4 too large.
+// `kind` is the arm, `LISTS`, `MAPS` or `UNIONS`; `go` says what is next.
 pub struct Frame {
     pub kind: u8,
     pub go: u8,

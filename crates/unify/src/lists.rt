@@ -2,7 +2,10 @@
 ghost use mathlib.Core.Path.{_≡_};
 ghost use Rattle.unify.specs.Steps.{ArmReady, Started, SomePair, Stepped, SomeEnd, Finished};
 use crate::Frame;
+use crate::LARGE;
+use crate::NOTHING_LEFT;
 use crate::Unified;
+use crate::arms::LISTS;
 use crate::flat::tested;
 use crate::made::apart;
 use crate::made::empty_frame;
@@ -23,7 +26,7 @@ pub fn start_list(
     ensures { λ r. ⌜ Started (now (work .entry)) (now (work .exit)) arm a ae b be mark r ⌝ }
 {
     text::copy_in(work, a, mark, 2);
-    let mut f = empty_frame(6);
+    let mut f = empty_frame(LISTS);
     f.n = 2;
     pair_next(f, a + 2, ae, b + 2, be, mark + 2)
 }
@@ -37,10 +40,10 @@ pub fn step_list(work: &mut [u8], f: Frame, u: Unified, mark: usize) -> Frame
         Unified::Done(end) => {
             let mut g = f;
             g.n = end - mark;
-            stop(g, 2)
+            stop(g, NOTHING_LEFT)
         }
         Unified::Mismatch { a, ae, b, be } => apart(f, a, ae, b, be),
-        Unified::TooLarge => stop(f, 4),
+        Unified::TooLarge => stop(f, LARGE),
     }
 }
 

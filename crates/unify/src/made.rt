@@ -2,6 +2,9 @@
 ghost use mathlib.Core.Path.{_≡_};
 ghost use Rattle.unify.specs.Made.{goes, apartBy, pairBy, emptyFrame};
 use crate::Frame;
+use crate::NOT_UNIFIED;
+use crate::NOTHING_LEFT;
+use crate::PAIR;
 
 pub fn stop(f: Frame, go: u8) -> Frame
     ensures { λ r. ⌜ r ≡ goes f go ⌝ }
@@ -15,7 +18,7 @@ pub fn apart(f: Frame, a: usize, ae: usize, b: usize, be: usize) -> Frame
     ensures { λ r. ⌜ r ≡ apartBy f a ae b be ⌝ }
 {
     let mut g = f;
-    g.go = 3;
+    g.go = NOT_UNIFIED;
     g.v = a;
     g.ve = ae;
     g.w = b;
@@ -27,7 +30,7 @@ pub fn pair_next(f: Frame, v: usize, ve: usize, w: usize, we: usize, at: usize) 
     ensures { λ r. ⌜ r ≡ pairBy f v ve w we at ⌝ }
 {
     let mut g = f;
-    g.go = 0;
+    g.go = PAIR;
     g.v = v;
     g.ve = ve;
     g.w = w;
@@ -41,7 +44,7 @@ pub fn empty_frame(kind: u8) -> Frame
 {
     Frame {
         kind,
-        go: 2,
+        go: NOTHING_LEFT,
         v: 0,
         ve: 0,
         w: 0,

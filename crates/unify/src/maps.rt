@@ -4,12 +4,16 @@ ghost use Rattle.unify.specs.Merges.{SomeEntry, EntryLong, SomeMerge, Lo
 ghost use Rattle.unify.specs.Steps.{ArmReady, Started, SomePair, Stepped, SomeEnd, Finished};
 ghost use Rattle.unify.specs.declared.Unified.the-variants.{Done};
 use crate::Frame;
+use crate::LARGE;
+use crate::NOTHING_LEFT;
 use crate::Unified;
+use crate::arms::MAPS;
 use crate::flat::tested;
 use crate::made::apart;
 use crate::made::empty_frame;
 use crate::made::pair_next;
 use crate::made::stop;
+use ty::CLOSE;
 use ty::Grown;
 use ty::Merge;
 
@@ -44,8 +48,8 @@ fn next_entry(work: &mut [u8], f: Frame, m: Merge, mark: usize) -> Frame
     let p = m.p;
     let mut g = f;
     g.n = m.n;
-    if work[p] == 33 {
-        return stop(g, 2);
+    if work[p] == CLOSE {
+        return stop(g, NOTHING_LEFT);
     }
     let q = m.q;
     let k = ty::name_len(work, p);
@@ -78,7 +82,7 @@ pub fn start_map(
         n: 2,
     };
     let l = keep_lone(work, m, mark);
-    next_entry(work, empty_frame(7), l, mark)
+    next_entry(work, empty_frame(MAPS), l, mark)
 }
 
 // Behind the answer [f.at..end), which is kept if there is room.
@@ -104,7 +108,7 @@ pub fn step_map(work: &mut [u8], f: Frame, u: Unified, mark: usize) -> Frame
     match u {
         Unified::Done(end) => after_value(work, f, end, mark),
         Unified::Mismatch { a, ae, b, be } => apart(f, a, ae, b, be),
-        Unified::TooLarge => stop(f, 4),
+        Unified::TooLarge => stop(f, LARGE),
     }
 }
 

@@ -5,12 +5,18 @@ ghost use lib.ListN.{length};
 ghost use Rattle.unify.specs.Variants.{Sides, Joining, Joined, Widening, Widened, SomeOuters, NextOuter, SomeOuter, ClosedOuter, SomeVariants, NextVariant};
 ghost use Rattle.unify.specs.Steps.{ArmReady, Started, SomePair, Stepped, SomeSkip, Skipped, SomeEnd, Finished};
 use crate::Frame;
+use crate::LARGE;
+use crate::NOTHING_LEFT;
+use crate::OUTER_ALONE;
 use crate::Unified;
+use crate::arms::UNION_LEFT;
+use crate::arms::UNIONS;
 use crate::flat::closed;
 use crate::made::empty_frame;
 use crate::made::pair_next;
 use crate::made::stop;
 use ty::Grown;
+use ty::NULL;
 
 // Each of the outer types [o..oe) meets each member [i..ie) of a union.
 pub struct Pairing {
@@ -26,13 +32,13 @@ pub fn sides(arm: u8, a: usize, ae: usize, b: usize, be: usize) -> Pairing
     ensures { λ r. ⌜ Sides arm a ae b be r ⌝ }
 {
     match arm {
-        10 => Pairing {
+        UNIONS => Pairing {
             o: a + 2,
             oe: ae - 2,
             i: b + 2,
             ie: be - 2,
         },
-        11 => Pairing {
+        UNION_LEFT => Pairing {
             o: b,
             oe: be,
             i: a + 2,
@@ -83,14 +89,14 @@ fn next_outer(work: &[u8], f: Frame, mark: usize) -> Frame
 {
     let o = f.p;
     if o >= f.pe {
-        return stop(f, 2);
+        return stop(f, NOTHING_LEFT);
     }
     let oe = ty::type_end(work, o);
     let mut g = f;
     g.met = false;
     let i = f.i;
-    if work[o] == 66 {
-        return stop(g, 1);
+    if work[o] == NULL {
+        return stop(g, OUTER_ALONE);
     }
     pair_next(g, i, ty::type_end(work, i), o, oe, mark + f.n)
 }
@@ -109,7 +115,7 @@ pub fn start_union(
     ensures { λ r. ⌜ Started (now (work .entry)) (now (work .exit)) arm a ae b be mark r ⌝ }
 {
     let s = sides(arm, a, ae, b, be);
-    let mut f = empty_frame(10);
+    let mut f = empty_frame(UNIONS);
     f.p = s.o;
     f.pe = s.oe;
     f.i = s.i;
@@ -134,7 +140,7 @@ fn close_outer(work: &mut [u8], f: Frame, mark: usize) -> Frame
             g.n = k;
             next_outer(work, g, mark)
         }
-        Grown::TooLarge => stop(g, 4),
+        Grown::TooLarge => stop(g, LARGE),
     }
 }
 
@@ -163,7 +169,7 @@ fn join_answer(work: &mut [u8], f: Frame, end: usize, mark: usize) -> Frame
             g.met = true;
             next_variant(work, g, mark)
         }
-        Grown::TooLarge => stop(f, 4),
+        Grown::TooLarge => stop(f, LARGE),
     }
 }
 
@@ -180,7 +186,7 @@ pub fn step_union(work: &mut [u8], f: Frame, u: Unified, mark: usize) -> Frame
             b: _,
             be: _,
         } => next_variant(work, f, mark),
-        Unified::TooLarge => stop(f, 4),
+        Unified::TooLarge => stop(f, LARGE),
     }
 }
 

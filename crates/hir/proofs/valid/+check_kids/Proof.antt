@@ -1,4 +1,5 @@
 use lib.ListN.{drop}
+use Rattle.line.proofs.KnownLaws.{not-fine}
 use Rattle.semantics.specs.Bytes.{split}
 use borrow.Author.Needs.{needs}
 use mathlib.Core.Logic.{⊎-elim}
@@ -57,7 +58,7 @@ check-kids-class-at-requires : (t : ℕ) → check-kids-lts.Need-class-at-requir
 check-kids-class-at-requires t c κs = search needs
 
 check-kids-read-line-requires : (t : ℕ) → check-kids-lts.Need-read-line-requires (check-kids-claims t) (check-kids-at t) check-kids.Post check-kids-Inv-loop check-kids-μ-loop
-check-kids-read-line-requires t c κs = c .before .before .loop .inv .inside
+check-kids-read-line-requires t c κs = (c .before .before .loop .inv .inside, not-fine)
 
 check-kids-verdict-requires : (t : ℕ) → check-kids-lts.Need-verdict-requires (check-kids-claims t) (check-kids-at t) check-kids.Post check-kids-Inv-loop check-kids-μ-loop
 check-kids-verdict-requires t c κs = let s = c .before .before .before .before .before .before .args .sheet .now in let p = c .before .before .before .loop .p in word-known s p (c .read-line .result) (split 10 (drop p s)) (c .read-line .ensures)

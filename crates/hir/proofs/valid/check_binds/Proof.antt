@@ -3,6 +3,7 @@ use lib.ListN.{length}
 use mathlib.Core.Path.{_≡_, refl, sym, _∙_, ap}
 use Prim.Native.Nat.{_+_, _-_, _*_}
 use native.Mathlib.Omega.{arith}
+use Rattle.line.proofs.KnownLaws.{not-fine}
 use Rattle.hir.proofs.TopLaws.{BindsInv, binds-start, bound-room, bound-done, bound-wrong, bound-low, bound-less, bound-on}
 use Rattle.hir.proofs.valid.check_binds.Statement.{statement}
 use Rattle.hir.proofs.valid.check_binds.Tie as tie
@@ -22,7 +23,7 @@ loop-holds : tie.Need-loop-holds Inv-loop μ-loop
 loop-holds c = binds-start _ _ _ (c .before .pre)
 
 read-line-requires : tie.Need-read-line-requires Inv-loop μ-loop
-read-line-requires c κs = c .loop .inv .inside
+read-line-requires c κs = (c .loop .inv .inside, not-fine)
 
 class-of-requires : tie.Need-class-of-requires Inv-loop μ-loop
 class-of-requires c κs = search needs

@@ -1,5 +1,6 @@
 use borrow.Author.Needs.{needs}
 use lib.ListN.{length, drop}
+use Rattle.line.proofs.KnownLaws.{not-fine}
 use Rattle.semantics.specs.Bytes.{split}
 use mathlib.Core.Path.{_≡_, refl, sym, _∙_, ap}
 use Prim.Native.Nat.{_+_, _-_, _*_}
@@ -27,7 +28,7 @@ loop-holds : tie.Need-loop-holds Inv-loop μ-loop
 loop-holds c = clauses-start _ _ _ _ (c .before .pre)
 
 read-line-requires : tie.Need-read-line-requires Inv-loop μ-loop
-read-line-requires c κs = c .loop .inv .inside
+read-line-requires c κs = (c .loop .inv .inside, not-fine)
 
 class-of-requires : tie.Need-class-of-requires Inv-loop μ-loop
 class-of-requires c κs = search needs

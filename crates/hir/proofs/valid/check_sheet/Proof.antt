@@ -1,4 +1,5 @@
 use lib.ListN.{drop}
+use Rattle.line.proofs.KnownLaws.{not-fine}
 use Rattle.semantics.specs.Bytes.{split}
 use mathlib.Core.Path.{_≡_, refl, sym, _∙_, ap}
 use native.Mathlib.Omega.{arith}
@@ -15,7 +16,7 @@ use Rattle.hir.proofs.valid.verdict.Reads as verdict-reads
 use Rattle.line.proofs.read_line.Reads as read-line-reads
 
 read-line-requires : tie.Need-read-line-requires
-read-line-requires c κs = search needs
+read-line-requires c κs = (omega arith, not-fine)
 
 verdict-requires : tie.Need-verdict-requires
 verdict-requires c κs = let s = c .before .before .args .sheet .now in word-known s 0 (c .read-line .result) (split 10 (drop 0 s)) (c .read-line .ensures)

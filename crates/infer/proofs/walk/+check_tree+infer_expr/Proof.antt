@@ -2,11 +2,14 @@
 use lib.Seq.{lt-length-set}
 use borrow.Author.Needs.{needs}
 use lib.ListN.{length}
+use mathlib.Core.Logic.{⊎-elim}
 use Prim.Native.Nat.{_-_, _*_, _+_}
 use mathlib.Core.Path.{sym, _∙_}
 use native.Mathlib.Omega.{arith}
+use Rattle.infer.specs.Walks.{ExprWalked}
+use Rattle.infer.proofs.WalkLeaf.{joined}
 use Rattle.infer.proofs.WalkEnter.{enters, via-ask, via-walked}
-use Rattle.infer.proofs.WalkCycle.{InferInv, infer-kids, infer-past, infer-wide, infer-pos, infer-start, infer-inside, infer-len, infer-role, infer-child, infer-stop, infer-halt, infer-step, infer-after, infer-large, infer-on, infer-finish, infer-end, TreeInv, tree-start, tree-inside, tree-line, tree-todo, tree-room, tree-ask, tree-stop, tree-down, tree-on, tree-kids, tree-past, tree-pass, tree-end}
+use Rattle.infer.proofs.WalkCycle.{InferInv, infer-kids, infer-past, infer-wide, infer-pos, infer-start, infer-inside, infer-len, infer-role, infer-child, infer-stop, infer-halt, infer-step, infer-after, infer-large, infer-on, infer-finish, infer-end, TreeInv, tree-start, tree-inside, tree-line, tree-todo, tree-room, tree-ask, tree-long, tree-out, tree-stop, tree-down, tree-on, tree-kids, tree-past, tree-pass, tree-end, infer-fine, tree-fine}
 use Prim.Native.Nat.{ℕ, _<_}
 use borrow.Fn.Kinds.{In}
 use borrow.Fn.PlainCycle.{Measures, is, falls, and}
@@ -20,15 +23,17 @@ use Rattle.hir.proofs.kids_of.Reads as kids-of-reads
 use Rattle.infer.proofs.rule.role_of.Reads as role-of-reads
 use Rattle.infer.proofs.rule.rule_of.Reads as rule-of-reads
 use Rattle.infer.proofs.step.finish.Reads as finish-reads
+use Rattle.infer.proofs.step.spelt.Reads as spelt-reads
 use Rattle.infer.proofs.step.start.Reads as start-reads
 use Rattle.infer.proofs.step.step.Reads as step-reads
 use Rattle.infer.proofs.walk.entered.Reads as entered-reads
 use Rattle.infer.proofs.walk.held.Reads as held-reads
+use Rattle.infer.proofs.walk.infer_leaf.Reads as infer-leaf-reads
 use Rattle.infer.proofs.walk.past.Reads as past-reads
-use Rattle.infer.proofs.step.spelt.Reads as spelt-reads
 use Rattle.infer.proofs.walk.told.Reads as told-reads
 use Rattle.line.proofs.read_line.Reads as read-line-reads
 use Rattle.line.proofs.class_of.Reads as class-of-reads
+use Rattle.line.proofs.is_leaf.Reads as is-leaf-reads
 use Rattle.infer.proofs.walk.+check_tree+infer_expr.{statement}
 use Rattle.infer.proofs.walk.+check_tree+infer_expr.Tie.{close}
 
@@ -55,7 +60,7 @@ infer-expr-below t =
     and 3 infer-expr-kinds.ps (falls 3 infer-expr-kinds.ps _<_ μ-infer-expr t) infer-expr.Pre
 
 abbrev check-tree-claims : ℕ → check-tree-lts.Claims
-check-tree-claims t = (entered-reads.Asked, entered-reads.Learnt, class-of-reads.Asked, class-of-reads.Learnt, infer-expr-below t, infer-expr.Post, read-line-reads.Asked, read-line-reads.Learnt, kids-of-reads.Asked, kids-of-reads.Learnt, past-reads.Asked, past-reads.Learnt)
+check-tree-claims t = (entered-reads.Asked, entered-reads.Learnt, class-of-reads.Asked, class-of-reads.Learnt, is-leaf-reads.Asked, is-leaf-reads.Learnt, infer-leaf-reads.Asked, infer-leaf-reads.Learnt, infer-expr-below t, infer-expr.Post, read-line-reads.Asked, read-line-reads.Learnt, kids-of-reads.Asked, kids-of-reads.Learnt, past-reads.Asked, past-reads.Learnt)
 
 abbrev check-tree-Inv-loop : check-tree-lts.InvT-loop
 check-tree-Inv-loop b sheet depth work₀ out₀ c₀ y₀ todo₀ work out c y todo = TreeInv sheet b depth work₀ out₀ c₀ y₀ work out c y todo
@@ -72,8 +77,11 @@ check-tree-entered-requires t c κs = enters (c .before .before .before .pre .1 
 check-tree-class-of-requires : (t : ℕ) → check-tree-lts.Need-class-of-requires (check-tree-claims t) (check-tree-at t) check-tree.Post check-tree-Inv-loop check-tree-μ-loop
 check-tree-class-of-requires t c κs = search needs
 
-check-tree-infer-expr-requires : (t : ℕ) → check-tree-lts.Need-infer-expr-requires (check-tree-claims t) (check-tree-at t) check-tree.Post check-tree-Inv-loop check-tree-μ-loop
-check-tree-infer-expr-requires t c κs = (omega (arith, c .before .before .before .before .before .before .before .before .before .before .pre .0), via-ask (c .before .before .before .before .before .before .before .before .before .before .pre .1) (c .before .before .before .before .before .before .entered .ensures) (sym (c .before .before .before .before .class-of .ensures) ∙ c .before .before .before .if1 .taken))
+check-tree-is-leaf-requires : (t : ℕ) → check-tree-lts.Need-is-leaf-requires (check-tree-claims t) (check-tree-at t) check-tree.Post check-tree-Inv-loop check-tree-μ-loop
+check-tree-is-leaf-requires t c κs = search needs
+
+check-tree-infer-leaf-requires : (t : ℕ) → check-tree-lts.Need-infer-leaf-requires (check-tree-claims t) (check-tree-at t) check-tree.Post check-tree-Inv-loop check-tree-μ-loop
+check-tree-infer-leaf-requires t c κs = record { depth = _; ask = via-ask (c .before .before .before .before .before .before .before .before .before .before .before .before .pre .1) (c .before .before .before .before .before .before .before .before .entered .ensures) (sym (c .before .before .before .before .before .before .class-of .ensures) ∙ c .before .before .before .before .before .if1 .taken); leaf = c .before .before .before .is-leaf .ensures (c .before .before .if2 .taken) }
 
 check-tree-same-length : (t : ℕ) → check-tree-lts.Need-same-length (check-tree-claims t) (check-tree-at t) check-tree.Post check-tree-Inv-loop check-tree-μ-loop
 check-tree-same-length t c = search needs
@@ -82,34 +90,10 @@ check-tree-same-length-2 : (t : ℕ) → check-tree-lts.Need-same-length-2 (chec
 check-tree-same-length-2 t c = search needs
 
 check-tree-returns : (t : ℕ) → check-tree-lts.Need-returns (check-tree-claims t) (check-tree-at t) check-tree.Post check-tree-Inv-loop check-tree-μ-loop
-check-tree-returns t c = via-walked (c .before .before .before .before .before .before .before .before .before .before .before .entered .ensures) (sym (c .before .before .before .before .before .before .before .before .before .class-of .ensures) ∙ c .before .before .before .before .before .before .before .before .if1 .taken) (c .before .before .before .before .infer-expr .ensures)
+check-tree-returns t c = via-walked (c .before .before .before .before .before .before .before .before .before .before .before .before .before .entered .ensures) (sym (c .before .before .before .before .before .before .before .before .before .before .before .class-of .ensures) ∙ c .before .before .before .before .before .before .before .before .before .before .if1 .taken) (c .before .before .before .before .infer-leaf .ensures _)
 
-check-tree-loop-holds : (t : ℕ) → check-tree-lts.Need-loop-holds (check-tree-claims t) (check-tree-at t) check-tree.Post check-tree-Inv-loop check-tree-μ-loop
-check-tree-loop-holds t c = tree-start
-
-check-tree-read-line-requires : (t : ℕ) → check-tree-lts.Need-read-line-requires (check-tree-claims t) (check-tree-at t) check-tree.Post check-tree-Inv-loop check-tree-μ-loop
-check-tree-read-line-requires t c κs = tree-inside (c .before .before .before .before .before .before .before .before .before .pre .1) (c .before .loop .inv)
-
-check-tree-class-of-requires-2 : (t : ℕ) → check-tree-lts.Need-class-of-requires-2 (check-tree-claims t) (check-tree-at t) check-tree.Post check-tree-Inv-loop check-tree-μ-loop
-check-tree-class-of-requires-2 t c κs = search needs
-
-check-tree-infer-expr-requires-2 : (t : ℕ) → check-tree-lts.Need-infer-expr-requires-2 (check-tree-claims t) (check-tree-at t) check-tree.Post check-tree-Inv-loop check-tree-μ-loop
-check-tree-infer-expr-requires-2 t c κs = (omega (arith, c .before .before .before .before .before .before .before .before .before .before .before .before .before .before .pre .0), tree-ask (c .before .before .before .before .before .before .before .before .before .before .before .before .before .before .pre .1) (c .before .before .before .before .before .before .loop .inv) (c .before .before .before .before .before .loop-test .taken) _ (c .before .before .before .before .read-line .ensures) (sym (c .before .before .before .class-of2 .ensures) ∙ c .before .before .if2 .taken))
-
-check-tree-enum-known-behind : (t : ℕ) → check-tree-lts.Need-enum-known-behind (check-tree-claims t) (check-tree-at t) check-tree.Post check-tree-Inv-loop check-tree-μ-loop
-check-tree-enum-known-behind t c = search needs
-
-check-tree-sub-todo : (t : ℕ) → check-tree-lts.Need-sub-todo (check-tree-claims t) (check-tree-at t) check-tree.Post check-tree-Inv-loop check-tree-μ-loop
-check-tree-sub-todo t c = search needs
-
-check-tree-loop-less : (t : ℕ) → check-tree-lts.Need-loop-less (check-tree-claims t) (check-tree-at t) check-tree.Post check-tree-Inv-loop check-tree-μ-loop
-check-tree-loop-less t c = omega (arith, tree-line (c .before .before .before .before .before .before .before .before .before .before .before .before .before .before .before .before .before .before .before .before .before .before .pre .1) (c .before .before .before .before .before .before .before .before .before .before .before .before .before .before .loop .inv), tree-down (c .before .before .before .before .before .before .before .before .before .before .before .before .before .before .before .before .before .before .before .before .before .before .pre .1) (c .before .before .before .before .before .before .before .before .before .before .before .before .before .before .loop .inv) (c .before .before .before .before .before .before .before .before .before .before .before .before .before .loop-test .taken) _ (c .before .before .before .before .before .before .before .before .before .before .before .before .read-line .ensures) (sym (c .before .before .before .before .before .before .before .before .before .before .before .class-of2 .ensures) ∙ c .before .before .before .before .before .before .before .before .before .before .if2 .taken) (c .before .before .before .before .before .before .before .infer-expr2 .ensures) (c .before .behind .given .1))
-
-check-tree-loop-again : (t : ℕ) → check-tree-lts.Need-loop-again (check-tree-claims t) (check-tree-at t) check-tree.Post check-tree-Inv-loop check-tree-μ-loop
-check-tree-loop-again t c = tree-on (c .before .before .before .before .before .before .before .before .before .before .before .before .before .before .before .before .before .before .before .before .before .before .pre .1) (c .before .before .before .before .before .before .before .before .before .before .before .before .before .before .loop .inv) (c .before .before .before .before .before .before .before .before .before .before .before .before .before .loop-test .taken) _ (c .before .before .before .before .before .before .before .before .before .before .before .before .read-line .ensures) (sym (c .before .before .before .before .before .before .before .before .before .before .before .class-of2 .ensures) ∙ c .before .before .before .before .before .before .before .before .before .before .if2 .taken) (c .before .before .before .before .before .before .before .infer-expr2 .ensures) (c .before .behind .given .1)
-
-check-tree-enum-known-l : (t : ℕ) → check-tree-lts.Need-enum-known-l (check-tree-claims t) (check-tree-at t) check-tree.Post check-tree-Inv-loop check-tree-μ-loop
-check-tree-enum-known-l t c = search needs
+check-tree-infer-expr-requires : (t : ℕ) → check-tree-lts.Need-infer-expr-requires (check-tree-claims t) (check-tree-at t) check-tree.Post check-tree-Inv-loop check-tree-μ-loop
+check-tree-infer-expr-requires t c κs = (omega (arith, c .before .before .before .before .before .before .before .before .before .before .before .before .pre .0), via-ask (c .before .before .before .before .before .before .before .before .before .before .before .before .pre .1) (c .before .before .before .before .before .before .before .before .entered .ensures) (sym (c .before .before .before .before .before .before .class-of .ensures) ∙ c .before .before .before .before .before .if1 .taken))
 
 check-tree-same-length-3 : (t : ℕ) → check-tree-lts.Need-same-length-3 (check-tree-claims t) (check-tree-at t) check-tree.Post check-tree-Inv-loop check-tree-μ-loop
 check-tree-same-length-3 t c = search needs
@@ -118,13 +102,60 @@ check-tree-same-length-4 : (t : ℕ) → check-tree-lts.Need-same-length-4 (chec
 check-tree-same-length-4 t c = search needs
 
 check-tree-returns-2 : (t : ℕ) → check-tree-lts.Need-returns-2 (check-tree-claims t) (check-tree-at t) check-tree.Post check-tree-Inv-loop check-tree-μ-loop
-check-tree-returns-2 t c = tree-stop (c .before .before .before .before .before .before .before .before .before .before .before .before .before .before .before .before .before .before .before .before .before .before .pre .1) (c .before .before .before .before .before .before .before .before .before .before .before .before .before .before .loop .inv) (c .before .before .before .before .before .before .before .before .before .before .before .before .before .loop-test .taken) _ (c .before .before .before .before .before .before .before .before .before .before .before .before .read-line .ensures) (sym (c .before .before .before .before .before .before .before .before .before .before .before .class-of2 .ensures) ∙ c .before .before .before .before .before .before .before .before .before .before .if2 .taken) (c .before .before .before .before .before .before .before .infer-expr2 .ensures) _ (c .before .l .given .1)
+check-tree-returns-2 t c = via-walked (c .before .before .before .before .before .before .before .before .before .before .before .before .before .entered .ensures) (sym (c .before .before .before .before .before .before .before .before .before .before .before .class-of .ensures) ∙ c .before .before .before .before .before .before .before .before .before .before .if1 .taken) (c .before .before .before .before .infer-expr .ensures)
+
+check-tree-loop-holds : (t : ℕ) → check-tree-lts.Need-loop-holds (check-tree-claims t) (check-tree-at t) check-tree.Post check-tree-Inv-loop check-tree-μ-loop
+check-tree-loop-holds t c = tree-start
+
+check-tree-read-line-requires : (t : ℕ) → check-tree-lts.Need-read-line-requires (check-tree-claims t) (check-tree-at t) check-tree.Post check-tree-Inv-loop check-tree-μ-loop
+check-tree-read-line-requires t c κs = (tree-inside (c .before .before .before .before .before .before .before .before .before .pre .1) (c .before .loop .inv), λ e. tree-fine (c .before .before .before .before .before .before .before .before .before .pre .1) (c .before .loop .inv) (c .loop-test .taken))
+
+check-tree-class-of-requires-2 : (t : ℕ) → check-tree-lts.Need-class-of-requires-2 (check-tree-claims t) (check-tree-at t) check-tree.Post check-tree-Inv-loop check-tree-μ-loop
+check-tree-class-of-requires-2 t c κs = search needs
+
+check-tree-is-leaf-requires-2 : (t : ℕ) → check-tree-lts.Need-is-leaf-requires-2 (check-tree-claims t) (check-tree-at t) check-tree.Post check-tree-Inv-loop check-tree-μ-loop
+check-tree-is-leaf-requires-2 t c κs = search needs
+
+check-tree-infer-leaf-requires-2 : (t : ℕ) → check-tree-lts.Need-infer-leaf-requires-2 (check-tree-claims t) (check-tree-at t) check-tree.Post check-tree-Inv-loop check-tree-μ-loop
+check-tree-infer-leaf-requires-2 t c κs = record { depth = _; ask = tree-ask (c .before .before .before .before .before .before .before .before .before .before .before .before .before .before .before .before .pre .1) (c .before .before .before .before .before .before .before .before .loop .inv) (c .before .before .before .before .before .before .before .loop-test .taken) _ (c .before .before .before .before .before .before .read-line .ensures) (sym (c .before .before .before .before .before .class-of2 .ensures) ∙ c .before .before .before .before .if3 .taken); leaf = c .before .before .before .is-leaf2 .ensures (c .before .before .if4 .taken) }
+
+check-tree-infer-expr-requires-2 : (t : ℕ) → check-tree-lts.Need-infer-expr-requires-2 (check-tree-claims t) (check-tree-at t) check-tree.Post check-tree-Inv-loop check-tree-μ-loop
+check-tree-infer-expr-requires-2 t c κs = (omega (arith, c .before .before .before .before .before .before .before .before .before .before .before .before .before .before .before .before .pre .0), tree-ask (c .before .before .before .before .before .before .before .before .before .before .before .before .before .before .before .before .pre .1) (c .before .before .before .before .before .before .before .before .loop .inv) (c .before .before .before .before .before .before .before .loop-test .taken) _ (c .before .before .before .before .before .before .read-line .ensures) (sym (c .before .before .before .before .before .class-of2 .ensures) ∙ c .before .before .before .before .if3 .taken))
+
+-- where the ways of a leaf and of any other expression join
+check-tree-typed : (t : ℕ) (c : check-tree-lts.Joined4 (check-tree-claims t) (check-tree-at t) check-tree.Post check-tree-Inv-loop check-tree-μ-loop)
+    → ExprWalked (c .before .before .before .before .before .before .before .before .before .before .before .before .before .before .args .sheet .now) (c .before .before .before .before .before .before .before .before .before .before .before .before .before .before .args .b) (c .before .before .before .before .read-line .result) (c .before .before .before .before .before .before .loop .c) (c .before .before .before .before .before .before .before .before .before .before .before .before .before .before .args .depth) (c .before .before .before .before .before .before .loop .work) (c .if4 .work) (c .before .before .before .before .before .before .loop .out) (c .if4 .out) (c .before .before .before .before .before .before .loop .y) (c .if4 .typed)
+check-tree-typed t c = ⊎-elim (λ w. joined (w .8) (w .9) (w .10) (w .3 .ensures _)) (λ w. joined (w .8) (w .9) (w .10) (w .3 .ensures)) (c .if4 .came)
+
+check-tree-enum-known-typed : (t : ℕ) → check-tree-lts.Need-enum-known-typed (check-tree-claims t) (check-tree-at t) check-tree.Post check-tree-Inv-loop check-tree-μ-loop
+check-tree-enum-known-typed t c = search needs
+
+check-tree-sub-todo : (t : ℕ) → check-tree-lts.Need-sub-todo (check-tree-claims t) (check-tree-at t) check-tree.Post check-tree-Inv-loop check-tree-μ-loop
+check-tree-sub-todo t c = search needs
+
+check-tree-loop-less : (t : ℕ) → check-tree-lts.Need-loop-less (check-tree-claims t) (check-tree-at t) check-tree.Post check-tree-Inv-loop check-tree-μ-loop
+check-tree-loop-less t c = omega (arith, tree-line (c .before .before .before .before .before .before .before .before .before .before .before .before .before .before .before .before .before .pre .1) (c .before .before .before .before .before .before .before .before .before .loop .inv), tree-down (c .before .before .before .before .before .before .before .before .before .before .before .before .before .before .before .before .before .pre .1) (c .before .before .before .before .before .before .before .before .before .loop .inv) (c .before .before .before .before .before .before .before .before .loop-test .taken) _ (c .before .before .before .before .before .before .before .read-line .ensures) (sym (c .before .before .before .before .before .before .class-of2 .ensures) ∙ c .before .before .before .before .before .if3 .taken) (check-tree-typed t (c .before .before .before)) (c .before .typed .given .1))
+
+check-tree-loop-again : (t : ℕ) → check-tree-lts.Need-loop-again (check-tree-claims t) (check-tree-at t) check-tree.Post check-tree-Inv-loop check-tree-μ-loop
+check-tree-loop-again t c = tree-on (c .before .before .before .before .before .before .before .before .before .before .before .before .before .before .before .before .before .pre .1) (c .before .before .before .before .before .before .before .before .before .loop .inv) (c .before .before .before .before .before .before .before .before .loop-test .taken) _ (c .before .before .before .before .before .before .before .read-line .ensures) (sym (c .before .before .before .before .before .before .class-of2 .ensures) ∙ c .before .before .before .before .before .if3 .taken) (check-tree-typed t (c .before .before .before)) (c .before .typed .given .1)
+
+check-tree-enum-known-typed-2 : (t : ℕ) → check-tree-lts.Need-enum-known-typed-2 (check-tree-claims t) (check-tree-at t) check-tree.Post check-tree-Inv-loop check-tree-μ-loop
+check-tree-enum-known-typed-2 t c = search needs
+
+check-tree-same-length-5 : (t : ℕ) → check-tree-lts.Need-same-length-5 (check-tree-claims t) (check-tree-at t) check-tree.Post check-tree-Inv-loop check-tree-μ-loop
+check-tree-same-length-5 t c = tree-long (c .before .before .before .before .before .before .before .before .before .before .before .before .before .before .before .before .before .pre .1) (c .before .before .before .before .before .before .before .before .before .loop .inv) (c .before .before .before .before .before .before .before .before .loop-test .taken) _ (c .before .before .before .before .before .before .before .read-line .ensures) (sym (c .before .before .before .before .before .before .class-of2 .ensures) ∙ c .before .before .before .before .before .if3 .taken) (check-tree-typed t (c .before .before .before))
+
+check-tree-same-length-6 : (t : ℕ) → check-tree-lts.Need-same-length-6 (check-tree-claims t) (check-tree-at t) check-tree.Post check-tree-Inv-loop check-tree-μ-loop
+check-tree-same-length-6 t c = tree-out (c .before .before .before .before .before .before .before .before .before .before .before .before .before .before .before .before .before .pre .1) (c .before .before .before .before .before .before .before .before .before .loop .inv) (c .before .before .before .before .before .before .before .before .loop-test .taken) _ (c .before .before .before .before .before .before .before .read-line .ensures) (sym (c .before .before .before .before .before .before .class-of2 .ensures) ∙ c .before .before .before .before .before .if3 .taken) (check-tree-typed t (c .before .before .before))
+
+check-tree-returns-3 : (t : ℕ) → check-tree-lts.Need-returns-3 (check-tree-claims t) (check-tree-at t) check-tree.Post check-tree-Inv-loop check-tree-μ-loop
+check-tree-returns-3 t c = tree-stop (c .before .before .before .before .before .before .before .before .before .before .before .before .before .before .before .before .before .pre .1) (c .before .before .before .before .before .before .before .before .before .loop .inv) (c .before .before .before .before .before .before .before .before .loop-test .taken) _ (c .before .before .before .before .before .before .before .read-line .ensures) (sym (c .before .before .before .before .before .before .class-of2 .ensures) ∙ c .before .before .before .before .before .if3 .taken) (check-tree-typed t (c .before .before .before)) _ (c .before .typed2 .given .1)
 
 check-tree-kids-of-requires : (t : ℕ) → check-tree-lts.Need-kids-of-requires (check-tree-claims t) (check-tree-at t) check-tree.Post check-tree-Inv-loop check-tree-μ-loop
 check-tree-kids-of-requires t c κs = tree-kids (c .before .before .before .before .before .before .before .before .before .before .before .before .pre .1) (c .before .before .before .before .loop .inv) (c .before .before .before .loop-test .taken) _ (c .before .before .read-line .ensures)
 
 check-tree-past-requires : (t : ℕ) → check-tree-lts.Need-past-requires (check-tree-claims t) (check-tree-at t) check-tree.Post check-tree-Inv-loop check-tree-μ-loop
-check-tree-past-requires t c κs = tree-past (c .before .before .before .before .before .before .before .before .before .before .before .before .before .pre .1) (c .before .before .before .before .before .loop .inv) (c .before .before .before .before .loop-test .taken) _ (c .before .before .before .read-line .ensures) (λ e. c .before .if2 .left (c .before .before .class-of2 .ensures ∙ e)) (c .kids-of .ensures)
+check-tree-past-requires t c κs = tree-past (c .before .before .before .before .before .before .before .before .before .before .before .before .before .pre .1) (c .before .before .before .before .before .loop .inv) (c .before .before .before .before .loop-test .taken) _ (c .before .before .before .read-line .ensures) (λ e. c .before .if3 .left (c .before .before .class-of2 .ensures ∙ e)) (c .kids-of .ensures)
 
 check-tree-sub-todo-2 : (t : ℕ) → check-tree-lts.Need-sub-todo-2 (check-tree-claims t) (check-tree-at t) check-tree.Post check-tree-Inv-loop check-tree-μ-loop
 check-tree-sub-todo-2 t c = search needs
@@ -136,7 +167,7 @@ check-tree-loop-less-2 : (t : ℕ) → check-tree-lts.Need-loop-less-2 (check-tr
 check-tree-loop-less-2 t c = omega (arith, tree-line (c .before .before .before .before .before .before .before .before .before .before .before .before .before .before .before .pre .1) (c .before .before .before .before .before .before .before .loop .inv), c .before .past .ensures .1)
 
 check-tree-loop-again-2 : (t : ℕ) → check-tree-lts.Need-loop-again-2 (check-tree-claims t) (check-tree-at t) check-tree.Post check-tree-Inv-loop check-tree-μ-loop
-check-tree-loop-again-2 t c = tree-pass (c .before .before .before .before .before .before .before .before .before .before .before .before .before .before .before .pre .1) (c .before .before .before .before .before .before .before .loop .inv) (c .before .before .before .before .before .before .loop-test .taken) _ (c .before .before .before .before .before .read-line .ensures) (λ e. c .before .before .before .if2 .left (c .before .before .before .before .class-of2 .ensures ∙ e)) (c .before .before .kids-of .ensures) _ (c .before .past .ensures)
+check-tree-loop-again-2 t c = tree-pass (c .before .before .before .before .before .before .before .before .before .before .before .before .before .before .before .pre .1) (c .before .before .before .before .before .before .before .loop .inv) (c .before .before .before .before .before .before .loop-test .taken) _ (c .before .before .before .before .before .read-line .ensures) (λ e. c .before .before .before .if3 .left (c .before .before .before .before .class-of2 .ensures ∙ e)) (c .before .before .kids-of .ensures) _ (c .before .past .ensures)
 
 check-tree-slice-write-work : (t : ℕ) → check-tree-lts.Need-slice-write-work (check-tree-claims t) (check-tree-at t) check-tree.Post check-tree-Inv-loop check-tree-μ-loop
 check-tree-slice-write-work t c = omega (arith, tree-room (c .before .before .before .before .before .before .before .before .before .pre .1) (c .before .loop .inv))
@@ -144,14 +175,14 @@ check-tree-slice-write-work t c = omega (arith, tree-room (c .before .before .be
 check-tree-slice-write-work-2 : (t : ℕ) → check-tree-lts.Need-slice-write-work-2 (check-tree-claims t) (check-tree-at t) check-tree.Post check-tree-Inv-loop check-tree-μ-loop
 check-tree-slice-write-work-2 t c = lt-length-set (c .before .loop .work) 0 80 (omega (arith, tree-room (c .before .before .before .before .before .before .before .before .before .pre .1) (c .before .loop .inv)))
 
-check-tree-same-length-5 : (t : ℕ) → check-tree-lts.Need-same-length-5 (check-tree-claims t) (check-tree-at t) check-tree.Post check-tree-Inv-loop check-tree-μ-loop
-check-tree-same-length-5 t c = search needs
+check-tree-same-length-7 : (t : ℕ) → check-tree-lts.Need-same-length-7 (check-tree-claims t) (check-tree-at t) check-tree.Post check-tree-Inv-loop check-tree-μ-loop
+check-tree-same-length-7 t c = search needs
 
-check-tree-same-length-6 : (t : ℕ) → check-tree-lts.Need-same-length-6 (check-tree-claims t) (check-tree-at t) check-tree.Post check-tree-Inv-loop check-tree-μ-loop
-check-tree-same-length-6 t c = search needs
+check-tree-same-length-8 : (t : ℕ) → check-tree-lts.Need-same-length-8 (check-tree-claims t) (check-tree-at t) check-tree.Post check-tree-Inv-loop check-tree-μ-loop
+check-tree-same-length-8 t c = search needs
 
-check-tree-returns-3 : (t : ℕ) → check-tree-lts.Need-returns-3 (check-tree-claims t) (check-tree-at t) check-tree.Post check-tree-Inv-loop check-tree-μ-loop
-check-tree-returns-3 t c = tree-end (c .before .before .before .before .before .before .before .before .before .pre .1) (c .before .loop .inv) (omega (arith, c .loop-test .left)) (c .before .before .before .before .before .entered .ensures) (λ e. c .before .before .if1 .left (c .before .before .before .class-of .ensures ∙ e))
+check-tree-returns-4 : (t : ℕ) → check-tree-lts.Need-returns-4 (check-tree-claims t) (check-tree-at t) check-tree.Post check-tree-Inv-loop check-tree-μ-loop
+check-tree-returns-4 t c = tree-end (c .before .before .before .before .before .before .before .before .before .pre .1) (c .before .loop .inv) (omega (arith, c .loop-test .left)) (c .before .before .before .before .before .entered .ensures) (λ e. c .before .before .if1 .left (c .before .before .before .class-of .ensures ∙ e))
 
 abbrev infer-expr-Inv-loop : infer-expr-lts.InvT-loop
 infer-expr-Inv-loop b sheet h depth work₀ out₀ here n rule c₀ y₀ st₀ j₀ work out c y st j = InferInv sheet b h depth work₀ out₀ here y₀ work out c y st j
@@ -175,7 +206,7 @@ infer-expr-loop-holds : (t : ℕ) → infer-expr-lts.Need-loop-holds (infer-expr
 infer-expr-loop-holds t c = infer-start (c .before .before .before .before .before .before .before .before .before .before .before .pre .1) (c .before .before .before .before .past .ensures) (c .before .before .before .before .before .rule-of .ensures) (c .before .before .start .ensures)
 
 infer-expr-read-line-requires : (t : ℕ) → infer-expr-lts.Need-read-line-requires (infer-expr-claims t) (infer-expr-at t) infer-expr.Post infer-expr-Inv-loop infer-expr-μ-loop
-infer-expr-read-line-requires t c κs = infer-inside (c .before .before .before .before .before .before .before .before .before .before .before .before .before .pre .1) (c .before .loop .inv) (c .before .before .before .before .start .ensures .0)
+infer-expr-read-line-requires t c κs = (infer-inside (c .before .before .before .before .before .before .before .before .before .before .before .before .before .pre .1) (c .before .loop .inv) (c .before .before .before .before .start .ensures .0), λ e. infer-fine (c .before .before .before .before .before .before .before .before .before .before .before .before .before .pre .1) (c .before .loop .inv) (c .before .before .before .before .start .ensures .0) (c .before .before .before .before .before .before .before .before .kids-of .ensures) (c .loop-test .taken))
 
 infer-expr-sub-check-tree : (t : ℕ) → infer-expr-lts.Need-sub-check-tree (infer-expr-claims t) (infer-expr-at t) infer-expr.Post infer-expr-Inv-loop infer-expr-μ-loop
 infer-expr-sub-check-tree t c = infer-pos (c .before .before .before .before .before .before .before .before .before .before .before .before .before .before .pre .1)
@@ -275,22 +306,29 @@ pub +check-tree+infer-expr-spec : {M : Type 1} → statement M
     check-tree-μ-loop
     (check-tree-entered-requires t)
     (check-tree-class-of-requires t)
-    (check-tree-infer-expr-requires t)
+    (check-tree-is-leaf-requires t)
+    (check-tree-infer-leaf-requires t)
     (check-tree-same-length t)
     (check-tree-same-length-2 t)
     (check-tree-returns t)
-    (check-tree-loop-holds t)
-    (check-tree-read-line-requires t)
-    (check-tree-class-of-requires-2 t)
-    (check-tree-infer-expr-requires-2 t)
-    (check-tree-enum-known-behind t)
-    (check-tree-sub-todo t)
-    (check-tree-loop-less t)
-    (check-tree-loop-again t)
-    (check-tree-enum-known-l t)
+    (check-tree-infer-expr-requires t)
     (check-tree-same-length-3 t)
     (check-tree-same-length-4 t)
     (check-tree-returns-2 t)
+    (check-tree-loop-holds t)
+    (check-tree-read-line-requires t)
+    (check-tree-class-of-requires-2 t)
+    (check-tree-is-leaf-requires-2 t)
+    (check-tree-infer-leaf-requires-2 t)
+    (check-tree-infer-expr-requires-2 t)
+    (check-tree-enum-known-typed t)
+    (check-tree-sub-todo t)
+    (check-tree-loop-less t)
+    (check-tree-loop-again t)
+    (check-tree-enum-known-typed-2 t)
+    (check-tree-same-length-5 t)
+    (check-tree-same-length-6 t)
+    (check-tree-returns-3 t)
     (check-tree-kids-of-requires t)
     (check-tree-past-requires t)
     (check-tree-sub-todo-2 t)
@@ -299,9 +337,9 @@ pub +check-tree+infer-expr-spec : {M : Type 1} → statement M
     (check-tree-loop-again-2 t)
     (check-tree-slice-write-work t)
     (check-tree-slice-write-work-2 t)
-    (check-tree-same-length-5 t)
-    (check-tree-same-length-6 t)
-    (check-tree-returns-3 t))
+    (check-tree-same-length-7 t)
+    (check-tree-same-length-8 t)
+    (check-tree-returns-4 t))
     λ t. infer-expr-lts.spec (
       kids-of-reads.Asked,
       kids-of-reads.Learnt,

@@ -4,6 +4,7 @@ use Prim.Native.Nat.{ℕ}
 use lib.ListN.{drop}
 use Rattle.semantics.specs.Bytes.{split}
 use Rattle.line.specs.Line.{ReadAs}
+use Rattle.line.proofs.KnownLaws.{not-fine}
 use borrow.Author.Needs.{needs}
 use Rattle.infer.proofs.walk.entered.Statement.{statement}
 use Rattle.infer.proofs.walk.entered.Tie as tie
@@ -19,7 +20,7 @@ past-requires : tie.Need-past-requires
 past-requires c κs = search needs
 
 read-line-requires : tie.Need-read-line-requires
-read-line-requires c κs = search needs
+read-line-requires c κs = (search needs, not-fine)
 
 returns-2 : tie.Need-returns-2
 returns-2 c =
