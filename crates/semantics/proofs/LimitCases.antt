@@ -1,4 +1,4 @@
--- A dozen cases at the limits (RULES 2, 4.6 and 7), by computation: those that a change of the definitions meets first. All the others are in
+-- Sixteen cases at the limits (RULES 2, 4.6 and 7), by computation: those that a change of the definitions meets first. All the others are in
 -- the crate `cases`.
 use mathlib.Core.Path.{refl}
 use mathlib.Core.List.{List, [], _∷_, _++_}
