@@ -1,6 +1,6 @@
 #!/bin/sh
 # no_division.sh CRATE..: RULES 10.1, ask 4: no function that prints a decimal divides, nor any that it calls.
-# Looks at the compiler's MIR of each crate with all that it calls: at every function of `report`, which writes all lines, at every
+# Looks at the compiler's MIR of each crate with all that it calls: at every function of `report`, which makes all lines, at every
 # function that calls `append_decimal`, at the functions of CRATE itself that call one of `report` directly, and from there on at
 # every function called. The kit's own printing of numbers divides, so it must not be there at all.
 # Exit status 0: no division; 1: a division, or nothing that prints; 2: bad usage.

@@ -17,7 +17,7 @@ use Rattle.semantics.proofs.Named.{Digits}
 use Rattle.text.specs.Text.{digitOf}
 use Rattle.text.proofs.Laws.{slice-sets, drop-slice}
 use Rattle.text.proofs.Words.{values-hex, values-unhex}
-use Rattle.ty.specs.Read.{kindOf}
+use Rattle.ty.specs.Read.{kindOf, ListLine}
 use Rattle.ty.specs.Parts.{TypeAt}
 use Rattle.ty.proofs.KindLaws.{kind-at, two-at}
 use Rattle.builtins.specs.declared.Row.{Row}
@@ -193,21 +193,30 @@ unfolding resolveReturn
 unlisted s n [] h u = (refl, refl)
 unlisted s n (t ∷ ts) h u = unlisted-type s n t h u
 
-pub first-two : (s : Bytes) (n : ℕ) (ts : List Ty) → FirstAt s n ts → 0 < n → 2 ≤ n
-first-two s n [] h p = absurd (omega arith)
-first-two s n (t ∷ ts) h p = omega (arith, two-at s 0 n t h)
+-- what `ty::element` ensures: of a list's line that of its element
+abbrev pub HandsBack : Bytes → Bytes → Type 0
+HandsBack s el = (t : Ty) → s ≡ line (tList t) → el ≡ line t
 
-pub element-returned : (s s′ : Bytes) (n : ℕ) (ts : List Ty) → FirstAt s n ts → 0 < n → getD s 0 0 ≡ 74 → s′ ≡ sets s 0 (slice 2 (2 + (n - 2)) s)
-    → Returned s s′ (resolveReturn (returnOf 3) ts) (n - 2)
-unfolding resolveReturn returnOf elementOf
-element-returned s s′ n [] h p e q = absurd (omega arith)
-element-returned s s′ n (t ∷ ts) h p e q =
+pub first-line : (s : Bytes) (n : ℕ) (ts : List Ty) → FirstAt s n ts → 0 < n → getD s 0 0 ≡ 74 → ListLine (take n s)
+first-line s n [] h p e = absurd (omega arith)
+first-line s n (t ∷ ts) h p e = let (u, w, v) = list-element s n t h e in record { element = u; is = h .is ∙ ap line w }
+
+pub first-long : (s el : Bytes) (n : ℕ) (ts : List Ty) → FirstAt s n ts → 0 < n → getD s 0 0 ≡ 74 → HandsBack (take n s) el → 2 + length el ≡ n
+first-long s el n [] h p e z = absurd (omega arith)
+first-long s el n (t ∷ ts) h p e z =
     let (u, w, v) = list-element s n t h e in
-    let two = two-at s 0 n t h in
-    let n′ : 2 + (n - 2) ≡ n = omega arith in
-    let long : length (line u) ≡ n - 2 = sym (ap length v) ∙ length-slice 2 n s (h .inside) in
-    let x : s′ ≡ sets s 0 (line u) = q ∙ ap (λ (k : ℕ). sets s 0 (slice 2 k s)) n′ ∙ ap (sets s 0) v in
-    rw (w, x, ← long) (front-line s u (omega (arith, long, h .inside)))
+    omega (arith, ap length (z u (h .is ∙ ap line w)), ap length v, length-slice 2 n s (h .inside), two-at s 0 n t h)
+
+pub element-returned : (s s′ el : Bytes) (n : ℕ) (ts : List Ty) → FirstAt s n ts → 0 < n → getD s 0 0 ≡ 74 → HandsBack (take n s) el → s′ ≡ sets s 0 (slice 2 (2 + length el) s)
+    → Returned s s′ (resolveReturn (returnOf 3) ts) (length el)
+unfolding resolveReturn returnOf elementOf
+element-returned s s′ el n [] h p e z q = absurd (omega arith)
+element-returned s s′ el n (t ∷ ts) h p e z q =
+    let (u, w, v) = list-element s n t h e in
+    let is : el ≡ line u = z u (h .is ∙ ap line w) in
+    let long = first-long s el n (t ∷ ts) h p e z in
+    let x : s′ ≡ sets s 0 (line u) = q ∙ ap (λ (k : ℕ). sets s 0 (slice 2 k s)) long ∙ ap (sets s 0) v in
+    rw (w, x, is) (front-line s u (omega (arith, long, ap length is, h .inside)))
 
 pub element-other : (s s′ : Bytes) (n r : ℕ) (ts : List Ty) → FirstAt s n ts → Unlisted s n → 4 ≤ length s → r ≡ 0 + 2 → s′ ≡ sets s 0 (65 ∷ 44 ∷ [])
     → Returned s s′ (resolveReturn (returnOf 3) ts) r

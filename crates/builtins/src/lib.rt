@@ -210,8 +210,9 @@ pub fn list_element(part: &mut [u8], len: usize) -> usize
 {
     if len > 0 {
         if part[0] == LIST {
-            text::copy_in(part, 2, 0, len - 2);
-            return len - 2;
+            let n = ty::element(&part[..len]).len();
+            text::copy_in(part, 2, 0, n);
+            return n;
         }
     }
     text::append(part, 0, b"A,")

@@ -18,7 +18,6 @@ use find::find_number;
 use find::find_text;
 pub use find::next_entry;
 pub use form::Checked;
-use form::STORE_SIZE;
 pub use form::check;
 pub use number::bytes16;
 pub use number::bytes32;

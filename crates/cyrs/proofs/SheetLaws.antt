@@ -6,14 +6,14 @@ use mathlib.Core.List.{List, _∷_, _++_}
 use mathlib.Core.Option.{Option, none, some}
 use mathlib.Core.Bool.{Bool, true, false}
 use lib.Dec.{eqb, ltb}
-use lib.ListN.{length, replicate}
-use lib.Seq.{sets}
+use lib.ListN.{length, take, drop, replicate}
+use lib.Seq.{sets, take-append-seam}
 use borrow.Author.Tests.{eq-eqb, ne-eqb, lt-ltb, le-ltb, ltb-false}
 use Rattle.semantics.specs.Limits.{sheetLimit, depthLimit, workSize}
 use Rattle.semantics.specs.Bytes.{Bytes}
 use Rattle.semantics.specs.Sheet.{Head, Sheet, refused, heads, sheet}
 use Rattle.semantics.specs.Walk.{Top, envOf, walk, results, allTests, typing}
-use Rattle.semantics.specs.Calls.{firstLarge, report, Outcome, refusal, accepted, limited, judged, outcome, Settled, untouched, cleared, answered, settled, sheetCall}
+use Rattle.semantics.specs.Calls.{firstLarge, report, Outcome, refusal, accepted, limited, judged, outcome, refusedText, outcomeText, sheetText, Settled, untouched, cleared, answered, settled, sheetCall}
 use Rattle.semantics.proofs.Causes.{FineSheet, sheet-fine}
 use Rattle.line.specs.declared.line.HirId.{HirId}
 use Rattle.hir.specs.Lines.{Lines, no-line, a-line}
@@ -276,31 +276,56 @@ told-first s work out work′ out′ n first second e =
 
 -- ## For callers
 
-abbrev Fits : Bytes → Settled → Type 0
-Fits out x = x .number ≡ 0 → x .first ≤ length out
+-- the text of a sheet by its tests
+texted : ℕ → Bytes → Bool → Bytes
+texted room s c = elim c [ true ↦ refusedText 1 0 | false ↦ outcomeText room (outcome s) ]
 
-call-inside : (s work out : Bytes) → Fits out (sheetCall s work out)
-unfolding chosen outcome judged limited settled roomed
-call-inside s work out = subst (Fits out) (sym (call-chosen s work out)) (by-lengths (ltb sheetLimit (length s)) (eqb (length work) workSize))
+text-texted : (room : ℕ) (s : Bytes) → sheetText room s ≡ texted room s (ltb sheetLimit (length s))
+unfolding sheetText texted
+text-texted room s = refl
+
+-- this text is printed of an outcome: the report, which lies inside the output, or the refusal
+pub record Prints (t out : Bytes) (x : Settled) : Type 0 where
+  pub inside : x .number ≡ 0 → x .first ≤ length out
+  pub report : x .number ≡ 0 → take (x .first) (x .out) ≡ t
+  pub refusal : (x .number ≡ 0 → ⊥) → refusedText (x .number) (x .first) ≡ t
+
+prints-refusal : (out : Bytes) (x : Settled) → (x .number ≡ 0 → ⊥) → Prints (refusedText (x .number) (x .first)) out x
+prints-refusal out x n =
+    record {
+      inside = λ z. absurd (n z);
+      report = λ z. absurd (n z);
+      refusal = λ _. refl;
+    }
+
+call-text : (s work out : Bytes) → length work ≡ workSize → Prints (sheetText (length out) s) out (sheetCall s work out)
+unfolding chosen texted outcome judged limited settled roomed outcomeText
+call-text s work out sized =
+    let c = ltb sheetLimit (length s) in
+    let e = call-chosen s work out ∙ ap (chosen s work out c) (eq-eqb (length work) workSize sized) in
+    subst (λ (t : Bytes). Prints t out (sheetCall s work out)) (sym (text-texted (length out) s)) (subst (Prints (texted (length out) s c) out) (sym e) (by-length c))
   where
-    by-room : (b : Bytes) (c : Bool) → ltb (length out) (length b) ≡ c → Fits out (roomed b work out c)
-    by-room b true e = λ z. absurd (omega arith)
-    by-room b false e = λ _. ltb-false (length out) (length b) e
+    by-room : (b : Bytes) (c : Bool) → ltb (length out) (length b) ≡ c → Prints (elim c [ true ↦ refusedText 7 0 | false ↦ b ]) out (roomed b work out c)
+    by-room b true e = prints-refusal out (cleared 7 0 work out) (λ z. omega arith)
+    by-room b false e =
+        record {
+          inside = λ _. ltb-false (length out) (length b) e;
+          report = λ _. take-append-seam b (drop (length b) out);
+          refusal = λ n. absurd (n refl);
+        }
 
-    by-test : (t : Option ℕ) (hs : List Head) → Fits out (settled (limited t hs) work out)
+    by-test : (t : Option ℕ) (hs : List Head) → Prints (outcomeText (length out) (limited t hs)) out (settled (limited t hs) work out)
     by-test none hs = by-room (report (typing hs)) (ltb (length out) (length (report (typing hs)))) refl
-    by-test (some n) hs = λ z. absurd (omega arith)
+    by-test (some n) hs = prints-refusal out (cleared 6 n work out) (λ z. omega arith)
 
-    by-sheet : (q : Sheet) → FineSheet q → Fits out (settled (judged q) work out)
-    by-sheet (refused c n) f = λ z. absurd (omega (arith, f .0))
+    by-sheet : (q : Sheet) → FineSheet q → Prints (outcomeText (length out) (judged q)) out (settled (judged q) work out)
+    by-sheet (refused c n) f = prints-refusal out (cleared c n work out) (λ z. omega (arith, f .0))
     by-sheet (heads hs) f = by-test (firstLarge (allTests (results hs))) hs
 
-    by-lengths : (c d : Bool) → Fits out (chosen s work out c d)
-    by-lengths true d = λ z. absurd (omega arith)
-    by-lengths false true = by-sheet (sheet depthLimit s) (sheet-fine depthLimit s)
-    by-lengths false false = λ z. absurd (omega arith)
+    by-length : (c : Bool) → Prints (texted (length out) s c) out (chosen s work out c true)
+    by-length true = prints-refusal out (untouched 1 work out) (λ z. omega arith)
+    by-length false = by-sheet (sheet depthLimit s) (sheet-fine depthLimit s)
 
--- a report that is returned lies inside the output
-pub call-fits : (s work out work′ out′ : Bytes) (n first second : ℕ) → settledBy n first second work′ out′ ≡ sheetCall s work out → n ≡ 0 → first ≤ length out
-call-fits s work out work′ out′ n first second e z =
-    subst (Fits out) (sym e) (call-inside s work out) z
+pub call-prints : (s work out work′ out′ : Bytes) (n first second : ℕ) → length work ≡ workSize → settledBy n first second work′ out′ ≡ sheetCall s work out
+    → Prints (sheetText (length out) s) out (settledBy n first second work′ out′)
+call-prints s work out work′ out′ n first second sized e = subst (Prints (sheetText (length out) s) out) (sym e) (call-text s work out sized)

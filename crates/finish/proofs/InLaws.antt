@@ -1,20 +1,23 @@
 -- IN: what may stand for a list, an operand and an element that meet, and the faults. Assumes nothing.
-use Prim.Native.Nat.{ℕ, _+_, _≤_, _<_}
+use Prim.Native.Nat.{ℕ, _+_, _-_, _≤_, _<_}
 use native.Mathlib.Omega.{arith}
 use borrow.Author.Tests.{ne-eqb}
 use mathlib.Core.Path.{_≡_, refl, sym, ap, _∙_, subst}
 use mathlib.Core.List.{List, [], _∷_}
 use mathlib.Core.Bool.{Bool, true, false, _||_}
 use lib.Dec.{eqb}
-use lib.ListN.{length, getD}
+use lib.ListN.{length, getD, take, drop}
 use Rattle.semantics.specs.Bytes.{Bytes}
-use Rattle.semantics.specs.Ty.{Base, tAny, tNull, tBool, tUnknown, Ty, base, tList, tMap, tNode, tRelationship, tUnion, letter, among, matches}
+use Rattle.semantics.specs.Ty.{Base, tAny, tNull, tBool, tUnknown, Ty, base, tList, tMap, tNode, tRelationship, tUnion, letter, line, among, matches}
 use Rattle.semantics.specs.Unify.{Answer, Unified as Tested, unify}
 use Rattle.semantics.specs.Calls.{anyLarge}
 use Rattle.semantics.specs.Walk.{E2012, E2013, open?, apart, inFaults}
-use Rattle.ty.specs.Read.{kindOf}
-use Rattle.ty.proofs.KindLaws.{kind-at, two-at}
+use Rattle.text.proofs.Laws.{part-slice}
+use Rattle.ty.specs.Read.{kindOf, ListLine}
+use Rattle.ty.proofs.Fields.{line-opens}
 use Rattle.ty.proofs.Lines.{letter-away, special}
+use Rattle.unify_run.proofs.Size.{line-two}
+use Rattle.builtins.proofs.Laws.{HandsBack}
 use Rattle.unify_run.specs.Run.{Run, done, mismatch, large, unless, answered, verdict}
 use Rattle.unify.specs.Work.{Operand, Ready, Answered, Unifies}
 use Rattle.unify.specs.declared.Unified.{Unified}
@@ -103,8 +106,6 @@ pub record Element (a b : Ty) (s : Bytes) (st : St) : Type 0 where
   pub ty : Ty
   pub is : b ≡ tList ty
   pub operand : Operand s (st .len + 2) (st .len + st .second) (st .len + st .second) ty
-  pub kind : kindOf ty ≡ getD s (st .len + 2) 0
-  pub long : st .len + 4 ≤ st .len + st .second
   pub ready : Ready s 0 (st .len) (st .len + 2) (st .len + st .second) (st .len + st .second)
 
 module _ {a b : Ty} {s : Bytes} {st : St} (h : TwoAt a b s st) (q : getD s (st .len) 0 ≡ 74) where
@@ -122,21 +123,42 @@ module _ {a b : Ty} {s : Bytes} {st : St} (h : TwoAt a b s st) (q : getD s (st .
             ty = u;
             is = e;
             operand = o;
-            kind = sym (kind-at s (st .len + 2) (st .len + st .second) u at);
-            long = omega (arith, two-at s (st .len + 2) (st .len + st .second) u at);
             ready = record { left = a; right = u; first = left-operand g; second = o; room = omega (arith, g .room, slots-element a u) };
           }
 
 pub list-ready : {s : Bytes} {st : St} → SomeTwo s st → getD s (st .len) 0 ≡ 74 → Ready s 0 (st .len) (st .len + 2) (st .len + st .second) (st .len + st .second)
 list-ready p q = element-of (p .at) q .ready
 
-pub list-inside : {s : Bytes} {st : St} → SomeTwo s st → getD s (st .len) 0 ≡ 74 → st .len + 2 < length s
-list-inside p q = let e = element-of (p .at) q in omega (arith, e .long, second-at (p .at .at) .inside)
+-- the list's line is a part of the work area, of which `ty::element` hands back the element's
+abbrev pub listPart : Bytes → St → Bytes
+listPart s st = take (st .len + st .second - st .len) (drop (st .len) s)
 
-pub list-kinds : {s : Bytes} {st : St} → SomeTwo s st → getD s (st .len) 0 ≡ 74 → SomeKinds (getD s 0 0) (getD s (st .len + 2) 0)
-list-kinds p q =
-    let e = element-of (p .at) q in
-    record { first = record { ty = p .left; is = left-kind (p .at) }; second = record { ty = e .ty; is = e .kind } }
+module _ {a b : Ty} {s : Bytes} {st : St} (h : TwoAt a b s st) (q : getD s (st .len) 0 ≡ 74) where
+  list-is : listPart s st ≡ line (tList (element-of h q .ty))
+  list-is = part-slice (st .len) (st .len + st .second) s ∙ second-at (h .at) .is ∙ ap line (element-of h q .is)
+
+  module _ {el : Bytes} (w : HandsBack (listPart s st) el) where
+    element-is : el ≡ line (element-of h q .ty)
+    element-is = w (element-of h q .ty) list-is
+
+    element-kind : kindOf (element-of h q .ty) ≡ getD el 0 0
+    unfolding line
+    element-kind = sym (ap (λ (x : Bytes). getD x 0 0) (element-is ∙ line-opens (element-of h q .ty) []))
+
+module _ {s : Bytes} {st : St} (p : SomeTwo s st) (q : getD s (st .len) 0 ≡ 74) where
+  pub list-line : ListLine (listPart s st)
+  list-line = record { element = element-of (p .at) q .ty; is = list-is (p .at) q }
+
+  module _ {el : Bytes} (w : HandsBack (listPart s st) el) where
+    pub list-first : 0 < length el
+    list-first = omega (arith, ap length (element-is (p .at) q w), line-two (element-of (p .at) q .ty))
+
+    pub list-kinds : SomeKinds (getD s 0 0) (getD el 0 0)
+    list-kinds =
+        record {
+          first = record { ty = p .left; is = left-kind (p .at) };
+          second = record { ty = element-of (p .at) q .ty; is = element-kind (p .at) q w };
+        }
 
 -- a mismatch is the definition's answer
 verdict-apart : (v : Tested) (x y : Ty) → verdict v ≡ mismatch x y → v .answer ≡ Answer.mismatch x y
@@ -170,13 +192,13 @@ module _ {a b : Ty} {s s₁ : Bytes} {st : St} {o : Unified} (w : Unifies s s₁
       let (t, p, f) = done-run s₁ (st .len + st .second) (verdict (unify a u)) element-run k in
       ends-settled g (ap (endIn a) (element-of h q .is) ∙ in-run a u (done t) p) (w .below .long) adds-none
 
-  pub list-apart : {s′ out out′ : Bytes} {n m : Tally} {r : Ended} {i ie j je : ℕ} → o ≡ Mismatch i ie j je
-      → ((u v : Ty) → kindOf u ≡ getD s 0 0 → kindOf v ≡ getD s (st .len + 2) 0 → Adds (apartFaults u v) out out′ n m)
+  pub list-apart : {s′ out out′ el : Bytes} {n m : Tally} {r : Ended} {i ie j je : ℕ} → HandsBack (listPart s st) el → o ≡ Mismatch i ie j je
+      → ((u v : Ty) → kindOf u ≡ getD s 0 0 → kindOf v ≡ getD el 0 0 → Adds (apartFaults u v) out out′ n m)
       → Settles (base tBool) s₁ s′ m r → Ends (endIn a b) s s′ out out′ n r
-  list-apart k d g =
+  list-apart z k d g =
       let u = element-of h q .ty in
       let (x, y, p) = apart-run s₁ (st .len + st .second) (verdict (unify a u)) element-run k in
-      ends-settled g (ap (endIn a) (element-of h q .is) ∙ in-run a u (mismatch x y) p ∙ ap (told (base tBool)) (in-apart a u x y p)) (w .below .long) (d a u (left-kind h) (element-of h q .kind))
+      ends-settled g (ap (endIn a) (element-of h q .is) ∙ in-run a u (mismatch x y) p ∙ ap (told (base tBool)) (in-apart a u x y p)) (w .below .long) (d a u (left-kind h) (element-kind h q z))
 
   pub list-large : {out : Bytes} {m : Tally} → o ≡ TooLarge → Ends (endIn a b) s s₁ out out m Large
   list-large {m = m} k =

@@ -1,5 +1,5 @@
 -- Where what is kept stands, and the ends that only read it. Assumes nothing.
-use Prim.Native.Nat.{ℕ, _+_, _-_, _≤_}
+use Prim.Native.Nat.{ℕ, _+_, _≤_, _<_}
 use native.Mathlib.Omega.{arith}
 use borrow.Author.Tests.{ltb-false}
 use mathlib.Core.Path.{_≡_, refl, sym, ap, _∙_, subst}
@@ -16,10 +16,10 @@ use Rattle.ty.specs.Parts.{linesOf, TypeAt, TypeFrom}
 use Rattle.ty.specs.Union.{TypesAt, overlong, grown, Closing, Closed}
 use Rattle.ty.specs.declared.Grown.{Grown}
 use Rattle.ty.specs.declared.Grown.the-variants.{Len, TooLarge}
-use Rattle.ty.specs.Read.{kindOf}
+use Rattle.ty.specs.Read.{kindOf, ListLine}
 use Rattle.ty.proofs.KindLaws.{two-at, kind-at}
 use Rattle.builtins.specs.Rows.{returnOf, Returned}
-use Rattle.builtins.proofs.Laws.{list-element, element-returned, element-other}
+use Rattle.builtins.proofs.Laws.{list-element, HandsBack, first-line, first-long, element-returned, element-other}
 use Rattle.unify_run.specs.Run.{sizes}
 use Rattle.unify_run.proofs.Size.{joined-sizes, line-two}
 use Rattle.walk_run.specs.Run.{Kept, empty, over, kept, both, items, last, entries, arms, Told, told, tooMuch, endList, endCase, endLast}
@@ -80,9 +80,20 @@ module _ {a b : Ty} {s : Bytes} {st : St} (k : KeptAt (both a b) s st) where
 -- ## The element, and the list itself
 
 module _ {t : Ty} {s : Bytes} {st : St} (k : KeptAt (kept t) s st) where
-  pub element-list : {s′ : Bytes} → getD s 0 0 ≡ 74 → s′ ≡ sets s 0 (slice 2 (2 + (st .len - 2)) s) → Returned s s′ (elementOf t) (st .len - 2)
-  unfolding resolveReturn returnOf
-  element-list {s′} e q = element-returned s s′ (st .len) (t ∷ []) (kept-at k) (omega (arith, two-at s 0 (st .len) t (kept-at k))) e q
+  kept-some : 0 < st .len
+  kept-some = omega (arith, two-at s 0 (st .len) t (kept-at k))
+
+  module _ (e : getD s 0 0 ≡ 74) where
+    pub element-line : ListLine (take (st .len) s)
+    element-line = first-line s (st .len) (t ∷ []) (kept-at k) kept-some e
+
+    module _ {el : Bytes} (z : HandsBack (take (st .len) s) el) where
+      pub element-long : 2 + length el ≡ st .len
+      element-long = first-long s el (st .len) (t ∷ []) (kept-at k) kept-some e z
+
+      pub element-list : {s′ : Bytes} → s′ ≡ sets s 0 (slice 2 (2 + length el) s) → Returned s s′ (elementOf t) (length el)
+      unfolding resolveReturn returnOf
+      element-list {s′} q = element-returned s s′ el (st .len) (t ∷ []) (kept-at k) kept-some e z q
 
   pub element-any : {s′ : Bytes} {r : ℕ} → (getD s 0 0 ≡ 74 → ⊥) → Puts (65 ∷ 44 ∷ []) s s′ r → Returned s s′ (elementOf t) r
   unfolding resolveReturn returnOf

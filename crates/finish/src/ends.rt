@@ -24,7 +24,8 @@ pub fn end_element(st: St, work: &mut [u8]) -> usize
     ensures { λ r. ⌜ (length (now (work .exit)) ≡ length (now (work .entry))) × ((t : Ty) → KeptAt (kept t) (now (work .entry)) st → TypeAt (now (work .exit)) 0 r (elementOf t)) ⌝ }
 {
     if work[0] == LIST {
-        let n = st.len - 2;
+        let k = st.len;
+        let n = ty::element(&work[..k]).len();
         text::copy_in(work, 2, 0, n);
         return n;
     }

@@ -37,7 +37,8 @@ fn in_list(st: St, work: &mut [u8], out: &mut [u8], tally: Tally) -> Ended
     let k = st.len;
     let e = k + st.second;
     let a = work[0];
-    let b = work[k + 2];
+    let element = ty::element(&work[k..e]);
+    let b = element[0];
     match unify::unify(work, 0, k, k + 2, e, e) {
         Unified::Done(_) => is_bool(work, tally),
         Unified::Mismatch {

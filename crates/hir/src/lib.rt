@@ -3,11 +3,7 @@ mod bind;
 mod valid;
 
 pub use bind::bind_kind;
-pub use valid::Check;
-pub use valid::Kids;
 pub use valid::Outline;
-pub use valid::check_kids;
 pub use valid::check_sheet;
-pub use valid::class_at;
 pub use valid::kids_of;
 pub use valid::next_line;

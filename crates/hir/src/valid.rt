@@ -19,6 +19,7 @@ use line::is_leaf;
 use line::read_line;
 use semantics::ACCEPTED;
 use semantics::BADLY_WRITTEN;
+use semantics::TOO_DEEP;
 
 // A tree of lines is fine, and what follows starts at `next`, line `line`; or it is refused.
 pub enum Check {
@@ -81,14 +82,14 @@ fn verdict(h: Head, class: usize, depth: usize) -> u32
     ensures { λ r. ⌜ r ≡ verdictOf (getD classes (h .word) 0) class (h .why) depth ⌝ }
 {
     if class_of(h.word) != class {
-        return 3;
+        return BADLY_WRITTEN;
     }
     if h.why != ACCEPTED {
         return h.why;
     }
     if class == line::AT_EXPRESSION {
         if depth == 0 {
-            return 5;
+            return TOO_DEEP;
         }
     }
     0

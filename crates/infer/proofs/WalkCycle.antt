@@ -1,4 +1,4 @@
--- The two walks, at the values that their code has. Assumes nothing.
+-- The walks with loops, at the values that their code has. Assumes nothing.
 use mathlib.Core.Path.{_≡_, refl, sym, _∙_}
 use mathlib.Core.List.{List}
 use Prim.Native.Nat.{ℕ, suc, _+_, _-_, _*_, _≤_, _<_}
@@ -25,7 +25,7 @@ use Rattle.infer.specs.Steps.{typingNo, ruleNo, roleNo, SomeStep, Steppe
 use Rattle.infer.specs.declared.step.Env.{Env as Binds}
 use Rattle.infer.specs.declared.step.Stepped.{Stepped}
 use Rattle.infer.specs.declared.step.Stepped.the-variants.{On, Large}
-use Rattle.infer.specs.Walks.{TreeAt, ExprAsk, ExprWalked, AnyAsk, AnyWalked, EntersAs, ToldAs}
+use Rattle.infer.specs.Walks.{TreeAt, ExprAsk, ExprWalked, AnyAsk, AnyWalked, PatternAsk, PatternWalked, ToldAs}
 use Rattle.infer.specs.declared.walk.Cur.{Cur}
 use Rattle.infer.specs.declared.walk.Walk.{Walk}
 use Rattle.infer.specs.declared.walk.Walk.the-variants.{Done, TooLarge}
@@ -35,7 +35,6 @@ use Rattle.infer.proofs.WalkLoop.{Base, expr-base, base-pos, base-typed
 use Rattle.infer.proofs.WalkTurn.{loop-inside}
 use Rattle.infer.proofs.WalkInfer.{Lent, Back, Held, len-inside, less, role-asks, child-known, child-ask, child-name, stop-inside, child-large, child-countable, some-step, step-long, step-out, step-large, step-on, some-end, end-walked, stopped-walked, child-long}
 use Rattle.infer.proofs.WalkPattern.{PatLoop, pat-start, pat-inside, pat-todo, pat-line, pat-first, pat-next, pat-read, pat-ask, pat-long, pat-out, pat-large, pat-down, pat-on, pass, pass-room, pat-end}
-use Rattle.infer.proofs.WalkEnter.{not-via}
 
 -- ## What other functions say
 
@@ -171,77 +170,77 @@ module _ {s : Bytes} {b : Binds} {h : Seen} {cur : Cur} {depth : ℕ} {workE : B
             let B = expr-base ζ in
             end-walked B u (i .all (ζ .tree .head) (ζ .tree .under) (ζ .tree .rest) env B u) infer-room hung over (cur .line) refl E t (i .long ∙ l₀)
 
--- ## `check_tree`
+-- ## `check_pattern`
 
-pub record TreeInv (s : Bytes) (b : Binds) (depth : ℕ) (work₀ out₀ : Bytes) (c₀ : Cur) (y₀ : Tally) (work out : Bytes) (c : Cur) (y : Tally) (todo : ℕ) : Type 0 where
+pub record PatternInv (s : Bytes) (b : Binds) (depth : ℕ) (work₀ out₀ : Bytes) (c₀ : Cur) (y₀ : Tally) (work out : Bytes) (c : Cur) (y : Tally) (todo : ℕ) : Type 0 where
   pub all : (p : Place) (t : TreeAt (at p depth) s c₀) → 3 < rank p → (env : Env) → EnvAs s b env → PatLoop s depth (c₀ .line .0) (t .head) (t .under) (t .rest) env out₀ y₀ out c y todo
   pub long : length work ≡ length work₀
   pub as-long : length out ≡ length out₀
 
-pub tree-start : {s : Bytes} {b : Binds} {depth : ℕ} {work out : Bytes} {c : Cur} {y : Tally} → TreeInv s b depth work out c y work out c y 1
-tree-start {out = out} {y = y} = record { all = λ p t i env u. pat-start t i env out y; long = refl; as-long = refl }
+pub pattern-start : {s : Bytes} {b : Binds} {depth : ℕ} {work out : Bytes} {c : Cur} {y : Tally} → PatternInv s b depth work out c y work out c y 1
+pattern-start {out = out} {y = y} = record { all = λ p t i env u. pat-start t i env out y; long = refl; as-long = refl }
 
-module _ {s : Bytes} {b : Binds} {k : Seen} {c₀ : Cur} {depth : ℕ} {work₀ : Bytes} {y₀ : Tally} (x : AnyAsk s b k c₀ depth work₀ y₀) {out₀ work out : Bytes} {c : Cur} {y : Tally} {todo : ℕ}
-    (i : TreeInv s b depth work₀ out₀ c₀ y₀ work out c y todo) where
-  tree-loop : PatLoop s depth (c₀ .line .0) (x .at .tree .head) (x .at .tree .under) (x .at .tree .rest) (x .env) out₀ y₀ out c y todo
-  tree-loop = i .all (x .at .place) (x .at .tree) (x .at .inside) (x .env) (x .bound)
+module _ {s : Bytes} {b : Binds} {c₀ : Cur} {depth : ℕ} {work₀ : Bytes} {y₀ : Tally} (x : PatternAsk s b c₀ depth work₀ y₀) {out₀ work out : Bytes} {c : Cur} {y : Tally} {todo : ℕ}
+    (i : PatternInv s b depth work₀ out₀ c₀ y₀ work out c y todo) where
+  pattern-loop : PatLoop s depth (c₀ .line .0) (x .at .tree .head) (x .at .tree .under) (x .at .tree .rest) (x .env) out₀ y₀ out c y todo
+  pattern-loop = i .all (x .at .place) (x .at .tree) (x .at .inside) (x .env) (x .bound)
 
-  pub tree-inside : c .at ≤ length s
-  tree-inside = pat-inside tree-loop
+  pub pattern-inside : c .at ≤ length s
+  pattern-inside = pat-inside pattern-loop
 
-  pub tree-line : c .line .0 ≤ length s + 1
-  tree-line = pat-line tree-loop
+  pub pattern-line : c .line .0 ≤ length s + 1
+  pattern-line = pat-line pattern-loop
 
-  pub tree-todo : todo < 4294967294
-  tree-todo = omega (arith, pat-todo tree-loop, x .at .tree .room)
+  pub pattern-todo : todo < 4294967294
+  pattern-todo = omega (arith, pat-todo pattern-loop, x .at .tree .room)
 
-  pub tree-room : 2 ≤ length work
-  tree-room = omega (arith, x .room, i .long)
+  pub pattern-room : 2 ≤ length work
+  pattern-room = omega (arith, x .room, i .long)
 
-  pub tree-fine : 0 < todo → FineAt s (c .at)
-  tree-fine more = record { head = pat-first tree-loop more .head; next = pat-next tree-loop more .next; line = pat-next tree-loop more .line }
+  pub pattern-fine : 0 < todo → FineAt s (c .at)
+  pattern-fine more = record { head = pat-first pattern-loop more .head; next = pat-next pattern-loop more .next; line = pat-next pattern-loop more .line }
 
   module _ (more : 0 < todo) (g : Seen) (read : ReadAs s (c .at) g (split 10 (drop (c .at) s))) where
-    tree-class : {hd : Head} {hs ks : List Head} {env : Env} (L : PatLoop s depth (c₀ .line .0) hd hs ks env out₀ y₀ out c y todo) → classOf g ≡ rank (place (pat-first L more .head))
-    tree-class L = class-is s g (pat-first L more .head) (pat-read L more g read .0)
+    pattern-class : {hd : Head} {hs ks : List Head} {env : Env} (L : PatLoop s depth (c₀ .line .0) hd hs ks env out₀ y₀ out c y todo) → classOf g ≡ rank (place (pat-first L more .head))
+    pattern-class L = class-is s g (pat-first L more .head) (pat-read L more g read .0)
 
     module _ (is : classOf g ≡ 13) where
       is-at : {hd : Head} {hs ks : List Head} {env : Env} (L : PatLoop s depth (c₀ .line .0) hd hs ks env out₀ y₀ out c y todo) → rank (place (pat-first L more .head)) ≡ 13
-      is-at L = sym (tree-class L) ∙ is
+      is-at L = sym (pattern-class L) ∙ is
 
-      pub tree-ask : ExprAsk s b g c depth work y
-      tree-ask = pat-ask tree-loop more g read (is-at tree-loop) (x .bound) (omega (arith, x .room, i .long)) (x .count)
+      pub pattern-ask : ExprAsk s b g c depth work y
+      pattern-ask = pat-ask pattern-loop more g read (is-at pattern-loop) (x .bound) (omega (arith, x .room, i .long)) (x .count)
 
       module _ {work′ out′ : Bytes} {a : Walk} (W : ExprWalked s b g c depth work work′ out out′ y a) where
-        pub tree-long : length work′ ≡ length work₀
-        tree-long = pat-long tree-loop more g read (is-at tree-loop) (x .bound) W ∙ i .long
+        pub pattern-long : length work′ ≡ length work₀
+        pattern-long = pat-long pattern-loop more g read (is-at pattern-loop) (x .bound) W ∙ i .long
 
-        pub tree-out : length out′ ≡ length out₀
-        tree-out = pat-out tree-loop more g read (is-at tree-loop) (x .bound) W
+        pub pattern-out : length out′ ≡ length out₀
+        pattern-out = pat-out pattern-loop more g read (is-at pattern-loop) (x .bound) W
 
-        pub tree-stop : (m : HirId) → a ≡ TooLarge m → AnyWalked s b k c₀ depth work₀ work′ out₀ out′ y₀ (TooLarge m)
-        tree-stop m e ζ env u =
+        pub pattern-stop : (m : HirId) → a ≡ TooLarge m → PatternWalked s b c₀ depth work₀ work′ out₀ out′ y₀ (TooLarge m)
+        pattern-stop m e ζ env u =
             let L = i .all (ζ .place) (ζ .tree) (ζ .inside) env u in
-            stopped-walked m (pat-large L more g read (is-at L) u W m e) tree-long tree-out
+            stopped-walked m (pat-large L more g read (is-at L) u W m e) pattern-long pattern-out
 
         module _ {len : ℕ} {c′ : Cur} {z : Tally} (e : a ≡ Done len c′ z) where
-          pub tree-down : suc (c .line .0) ≤ c′ .line .0
-          tree-down = pat-down tree-loop more g read (is-at tree-loop) (x .bound) W e
+          pub pattern-down : suc (c .line .0) ≤ c′ .line .0
+          pattern-down = pat-down pattern-loop more g read (is-at pattern-loop) (x .bound) W e
 
-          pub tree-on : TreeInv s b depth work₀ out₀ c₀ y₀ work′ out′ c′ z (todo - 1)
-          tree-on = record { all = λ p t q env u. let L = i .all p t q env u in pat-on L more g read (is-at L) u W e; long = tree-long; as-long = tree-out }
+          pub pattern-on : PatternInv s b depth work₀ out₀ c₀ y₀ work′ out′ c′ z (todo - 1)
+          pattern-on = record { all = λ p t q env u. let L = i .all p t q env u in pat-on L more g read (is-at L) u W e; long = pattern-long; as-long = pattern-out }
 
-    pub tree-kids : (g .word < 64) × (g .count ≤ 9999) × (g .flag ≤ 3)
-    tree-kids = asks-kids s g (pat-first tree-loop more .head) (pat-read tree-loop more g read .0)
+    pub pattern-kids : (g .word < 64) × (g .count ≤ 9999) × (g .flag ≤ 3)
+    pattern-kids = asks-kids s g (pat-first pattern-loop more .head) (pat-read pattern-loop more g read .0)
 
     module _ (isn't : classOf g ≡ 13 → ⊥) {kk : Kids} (hung : KidsAs g kk) where
-      pub tree-past : c .line .0 < 4294967295
-      tree-past = pass-room tree-loop more g read (λ e. isn't (tree-class tree-loop ∙ e)) hung
+      pub pattern-past : c .line .0 < 4294967295
+      pattern-past = pass-room pattern-loop more g read (λ e. isn't (pattern-class pattern-loop ∙ e)) hung
 
-      pub tree-pass : (c′ : Cur) → Past c′ (g .next) (c .line .0) → TreeInv s b depth work₀ out₀ c₀ y₀ work out c′ y (todo - 1 + kk .all)
-      tree-pass c′ f =
-          record { all = λ p t q env u. let L = i .all p t q env u in pass L more g read (λ e. isn't (tree-class L ∙ e)) hung c′ f; long = i .long; as-long = i .as-long }
+      pub pattern-pass : (c′ : Cur) → Past c′ (g .next) (c .line .0) → PatternInv s b depth work₀ out₀ c₀ y₀ work out c′ y (todo - 1 + kk .all)
+      pattern-pass c′ f =
+          record { all = λ p t q env u. let L = i .all p t q env u in pass L more g read (λ e. isn't (pattern-class L ∙ e)) hung c′ f; long = i .long; as-long = i .as-long }
 
-  pub tree-end : todo ≤ 0 → {e : Seen} {d : Cur} → EntersAs s k c₀ e d → (classOf e ≡ 13 → ⊥) → AnyWalked s b k c₀ depth work₀ (set (set work 0 80) 1 44) out₀ out y₀ (Done 2 c y)
-  tree-end over E n ζ env u =
-      pat-end (i .all (ζ .place) (ζ .tree) (ζ .inside) env u) over work₀ work (not-via ζ E n) (ζ .tree .met) (ζ .inside) tree-room (i .long)
+  pub pattern-end : todo ≤ 0 → PatternWalked s b c₀ depth work₀ (set (set work 0 80) 1 44) out₀ out y₀ (Done 2 c y)
+  pattern-end over ζ env u =
+      pat-end (i .all (ζ .place) (ζ .tree) (ζ .inside) env u) over work₀ work (ζ .passes) (ζ .tree .met) (ζ .inside) pattern-room (i .long)

@@ -16,7 +16,7 @@ use Rattle.hir.proofs.PlaceLaws.{classOf, class-is}
 use Rattle.report.specs.declared.Tally.{Tally}
 use Rattle.walk_run.specs.Run.{Ran, halted, typed, judged}
 use Rattle.infer.specs.declared.step.Env.{Env as Binds}
-use Rattle.infer.specs.Walks.{resultOf, Behind, WalkedAs, Walked, ExprAt, ExprAsk, ExprWalked, AnyAt, AnyAsk, AnyWalked, EntersAs}
+use Rattle.infer.specs.Walks.{resultOf, Behind, WalkedAs, Walked, ExprAt, ExprAsk, ExprWalked, AnyAt, AnyAsk, AnyWalked, PatternAt, PatternAsk, PatternWalked, EntersAs}
 use Rattle.infer.specs.declared.walk.Cur.{Cur}
 use Rattle.infer.specs.declared.walk.Walk.{Walk}
 use Rattle.infer.specs.declared.walk.Walk.the-variants.{Done, TooLarge}
@@ -153,7 +153,7 @@ module _ {s : Bytes} {k : Seen} {c : Cur} {depth : ℕ} (a : AnyAt s k c depth) 
       go entering t = via-entry t
       go (Rule.typed x) t = via-itself x t
 
-  pub not-via : (classOf e ≡ 13 → ⊥) → rule (a .tree .head) ≡ silent
+  not-via : (classOf e ≡ 13 → ⊥) → rule (a .tree .head) ≡ silent
   not-via n = go (rule (a .tree .head)) refl
     where
       go : (r : Rule) → rule (a .tree .head) ≡ r → rule (a .tree .head) ≡ silent
@@ -183,3 +183,14 @@ module _ {s : Bytes} {b : Binds} {k : Seen} {c : Cur} {depth : ℕ} {work : Byte
 pub via-walked : {s : Bytes} {b : Binds} {k : Seen} {c : Cur} {depth : ℕ} {work work′ out out′ : Bytes} {y : Tally} {r : Walk} {e : Seen} {d : Cur} → EntersAs s k c e d → classOf e ≡ 13
     → ExprWalked s b e d depth work work′ out out′ y r → AnyWalked s b k c depth work work′ out out′ y r
 via-walked {s} {b} {k} {c} {depth} {work} {work′} {out} {out′} {y} {r} E q W a env u = let v = via a E q in v .gives env work work′ out out′ y r (W (v .expr) env u)
+
+-- the requirements and the answer of a tree that is neither an expression nor an entry
+module _ {s : Bytes} {k : Seen} {c : Cur} {depth : ℕ} {e : Seen} {d : Cur} (E : EntersAs s k c e d) (n : classOf e ≡ 13 → ⊥) where
+  abbrev neither-at : AnyAt s k c depth → PatternAt s c depth
+  neither-at a = record { place = a .place; inside = a .inside; tree = a .tree; passes = not-via a E n }
+
+  pub neither-ask : {b : Binds} {work : Bytes} {y : Tally} → AnyAsk s b k c depth work y → PatternAsk s b c depth work y
+  neither-ask x = record { at = neither-at (x .at); env = x .env; bound = x .bound; room = x .room; count = x .count }
+
+  pub neither-walked : {b : Binds} {work work′ out out′ : Bytes} {y : Tally} {r : Walk} → PatternWalked s b c depth work work′ out out′ y r → AnyWalked s b k c depth work work′ out out′ y r
+  neither-walked W a env u = W (neither-at a) env u

@@ -1,4 +1,4 @@
--- The loop of `check_tree` on plain values. Assumes nothing.
+-- The loop of `check_pattern` on plain values. Assumes nothing.
 use mathlib.Core.Path.{_≡_, refl, sym, _∙_, ap, subst}
 use mathlib.Core.List.{List, [], _∷_, _++_, append-nil, append-assoc, map}
 use mathlib.Core.Option.{Option, none, some}

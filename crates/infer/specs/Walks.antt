@@ -4,7 +4,7 @@ use mathlib.Core.List.{List, [], _∷_}
 use Prim.Native.Nat.{ℕ, suc, _+_, _-_, _*_, _<_, _≤_, _^_}
 use lib.ListN.{length, getD, take, drop}
 use Rattle.semantics.specs.Bytes.{Bytes, split}
-use Rattle.semantics.specs.Sheet.{Head, Place, AtExpression, rank, Want, at, arity}
+use Rattle.semantics.specs.Sheet.{Head, Place, AtExpression, silent, rule, rank, Want, at, arity}
 use Rattle.semantics.specs.Walk.{Env, Res, step, walk}
 use Rattle.line.specs.Arrays.{groups, seconds}
 use Rattle.line.specs.Line.{HeadIs, ReadAs}
@@ -114,6 +114,25 @@ pub record AnyAsk (s : Bytes) (b : Binds) (k : Seen) (c : Cur) (depth : ℕ) (wo
 abbrev pub AnyWalked : Bytes → Binds → Seen → Cur → ℕ → Bytes → Bytes → Bytes → Bytes → Tally → Walk → Type 0
 AnyWalked s b k c depth work work′ out out′ y r =
     (a : AnyAt s k c depth) (env : Env) → EnvAs s b env → Walked env s (c .line .0) (a .tree .head) (a .tree .under) (a .tree .rest) work work′ out out′ y r
+
+-- ## A tree that is neither an expression nor an entry: a pattern, or an item of a map projection
+
+pub record PatternAt (s : Bytes) (c : Cur) (depth : ℕ) : Type 0 where
+  pub place : Place
+  pub inside : 3 < rank place
+  pub tree : TreeAt (at place depth) s c
+  pub passes : rule (tree .head) ≡ silent
+
+pub record PatternAsk (s : Bytes) (b : Binds) (c : Cur) (depth : ℕ) (work : Bytes) (y : Tally) : Type 0 where
+  pub at : PatternAt s c depth
+  pub env : Env
+  pub bound : EnvAs s b env
+  pub room : 1024 * (depth + 40) ≤ length work
+  pub count : Counting y (suc (length (at .tree .under)))
+
+abbrev pub PatternWalked : Bytes → Binds → Cur → ℕ → Bytes → Bytes → Bytes → Bytes → Tally → Walk → Type 0
+PatternWalked s b c depth work work′ out out′ y r =
+    (a : PatternAt s c depth) (env : Env) → EnvAs s b env → Walked env s (c .line .0) (a .tree .head) (a .tree .under) (a .tree .rest) work work′ out out′ y r
 
 -- ## Small functions
 

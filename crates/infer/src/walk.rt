@@ -1,8 +1,8 @@
-// The two walks that call each other.
+// The three walks that call each other.
 ghost use mathlib.Core.Path.{_≡_};
 ghost use Prim.Native.Nat.{_+_, _<_, _≤_};
 ghost use lib.ListN.{length};
-ghost use Rattle.infer.specs.Walks.{EntersAs, ToldAs, ExprAsk, ExprWalked, LeafAsk, LeafWalked, AnyAsk, AnyWalked};
+ghost use Rattle.infer.specs.Walks.{EntersAs, ToldAs, ExprAsk, ExprWalked, LeafAsk, LeafWalked, AnyAsk, AnyWalked, PatternAsk, PatternWalked};
 use crate::rule::role_of;
 use crate::rule::rule_of;
 use crate::step::Env;
@@ -162,8 +162,8 @@ pub fn infer_expr(
     told(finish(b, sheet, h, st, work, out, y), here, c)
 }
 
-// A tree inside a clause, whose first line is `k`: of an expression, or an entry's, its type. Of any other (a pattern, an item of a map
-// projection) the expressions are typed and dropped.
+// A tree inside a clause, whose first line is `k`: of an expression, or of the one that an entry holds, its type.
+// Any other tree is left to `check_pattern`.
 fn check_tree(
     b: Env,
     sheet: &[u8],
@@ -186,6 +186,22 @@ fn check_tree(
         }
         return infer_expr(b, sheet, e, at, depth, work, out, tally);
     }
+    check_pattern(b, sheet, cur, depth, work, out, tally)
+}
+
+// A tree that is neither an expression nor an entry (a pattern, or an item of a map projection): its expressions are typed and dropped.
+fn check_pattern(
+    b: Env,
+    sheet: &[u8],
+    cur: Cur,
+    depth: usize,
+    work: &mut [u8],
+    out: &mut [u8],
+    tally: Tally,
+) -> Walk
+    requires { ⌜ PatternAsk (now sheet) b cur depth (now work) tally ⌝ }
+    ensures { λ r. ⌜ PatternWalked (now (sheet .entry)) b cur depth (now (work .entry)) (now (work .exit)) (now (out .entry)) (now (out .exit)) tally r ⌝ }
+{
     let mut c = cur;
     let mut y = tally;
     let mut todo: usize = 1;

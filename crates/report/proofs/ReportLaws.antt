@@ -1,4 +1,4 @@
--- One text behind another, the lines of the faults, requirements by the kind of a type, and the whole report by its parts. Assumes nothing.
+-- One text behind another, a body in its room, the lines of the faults, requirements by the kind of a type, and the whole report by its parts. Assumes nothing.
 use Prim.Native.Nat.{ℕ, _+_, _*_, _≤_}
 use native.Mathlib.Omega.{arith}
 use borrow.Author.Tests.{eq-eqb, ne-eqb, eqb-true}
@@ -7,19 +7,20 @@ use mathlib.Core.Logic.{inl, inr}
 use mathlib.Core.List.{List, [], _∷_, _++_, append-assoc, map as mapL}
 use mathlib.Core.Bool.{Bool, true, false, _||_}
 use lib.Dec.{eqb}
-use lib.ListN.{length, set, length-append}
+use lib.ListN.{length, set, take, replicate, length-append}
 use lib.Seq.{sets}
 use Rattle.semantics.specs.Bytes.{Bytes, text, unlines, shown, shownIn}
 use Rattle.semantics.specs.Ty.{Base, tUnknown, Ty, base, tList, tMap, tNode, tRelationship, tUnion, letter, among, matches}
 use Rattle.semantics.specs.Builtins.{ArgShape, Builtin, signature, describe}
 use Rattle.semantics.specs.Walk.{Fault, E2009, E2010, E2011, E2012, E2013, E5012, Top, Need, aNumber, aString, aBool, meeting, meets, faultOf, require, numeric, open?}
 use Rattle.semantics.specs.Calls.{typeName, faultText, faultLine, topLine, faultCount, endLine, topLines, reportLines, report}
-use Rattle.text.proofs.Laws.{sets-append}
+use Rattle.text.proofs.Laws.{sets-append, take-sets}
 use Rattle.ty.specs.Read.{kindOf}
 use Rattle.ty.proofs.KindLaws.{name-part}
 use Rattle.builtins.proofs.Laws.{name-short, describe-short}
+use Rattle.writer.specs.Written.{lineText}
 use Rattle.report.specs.declared.Tally.{Tally}
-use Rattle.report.specs.Report.{faultsText, typeText, topsText, endText, startText, Appends, Starts, Adds, codeFault, IsCode, IsFaultCode, OpenKind, NumericKind}
+use Rattle.report.specs.Report.{faultsText, typeText, topsText, numbersText, endText, codeText, Appends, Starts, NumbersLine, Adds, codeFault, IsCode, IsFaultCode, OpenKind, NumericKind}
 
 -- ## One text behind another
 
@@ -37,6 +38,36 @@ wrote s p = record { text = p .1; end = p .0 }
 
 pub one : (b : ℕ) {o o′ : Bytes} {f r : ℕ} → (r ≡ f + 1) × (o′ ≡ set o f b) → Appends (b ∷ []) o o′ f r
 one b p = record { text = p .1; end = p .0 }
+
+-- the room for a body, before anything stands in it
+abbrev pub room : Bytes
+room = replicate 64 0
+
+-- a body in its room: the text up to its end
+pub record Body (s l : Bytes) (k : ℕ) : Type 0 where
+  pub is : take k l ≡ s
+  pub size : length (take k l) ≡ k
+  pub inside : k ≤ 64
+
+-- texts that were put together from the room's front
+pub body : {s l : Bytes} {k : ℕ} → Appends s room l 0 k → length s ≤ 64 → Body s l k
+body {s} {l} {k} p h = record { is = same; size = ap length same ∙ omega (arith, p .end); inside = omega (arith, p .end, h) }
+  where
+    end : k ≡ 0 + length s
+    end = p .end
+
+    same : take k l ≡ s
+    same = ap₂ take end (p .text) ∙ take-sets room 0 s (omega (arith, h))
+
+-- a line of two numbers, by its body
+pub numbers : (h : Bytes) (n m : ℕ) {body o o′ : Bytes} {f r : ℕ} → body ≡ shown n ++ (44 ∷ shown m) → length body ≤ 41
+    → (r ≡ f + length (lineText h body)) × (o′ ≡ sets o f (lineText h body)) → NumbersLine h n m o o′ f r
+numbers h n m {body} {o} {o′} {f} {r} e l w =
+    let t : lineText h body ≡ numbersText h n m = ap (lineText h) e ∙ simp append-assoc in
+    record {
+      appended = wrote (numbersText h n m) (rw t at w);
+      short = omega (arith, w .0, length-append h (body ++ (10 ∷ [])), length-append body (10 ∷ []), l);
+    }
 
 -- ## Faults
 
@@ -65,21 +96,21 @@ adds-then {fs} {gs} {out} {out′} {out″} {t} {t′} {t″} p q =
     }
 
 -- a line that was written, and counted
-pub adds-one : (f : Fault) {s out out′ : Bytes} {t t′ : Tally} {k : ℕ} → faultLine f ++ (10 ∷ []) ≡ s → Appends s out out′ (t .fill) k
-    → (t′ .fill ≡ k) × (t′ .faults ≡ t .faults + 1) → Adds (f ∷ []) out out′ t t′
-unfolding faultsText
-adds-one f {s} {out} {out′} {t} {t′} {k} e a n =
+pub adds-line : (f : Fault) {body out out′ : Bytes} {t t′ : Tally} {k : ℕ} → faultText f ≡ body → (k ≡ t .fill + length (lineText (70 ∷ 44 ∷ []) body)) × (out′ ≡ sets out (t .fill) (lineText (70 ∷ 44 ∷ []) body))
+    → t′ .fill ≡ k → t′ .faults ≡ t .faults + 1 → Adds (f ∷ []) out out′ t t′
+unfolding faultsText faultLine
+adds-line f {body} {out} {out′} {t} {t′} {k} e w n m =
     record {
-      text = a .text ∙ ap (sets out (t .fill)) (sym e);
-      end = n .0 ∙ a .end ∙ ap (λ (x : Bytes). t .fill + length x) (sym e);
-      count = n .1;
+      text = w .1 ∙ ap (λ (s : Bytes). sets out (t .fill) (lineText (70 ∷ 44 ∷ []) s)) (sym e);
+      end = n ∙ w .0 ∙ ap (λ (s : Bytes). t .fill + length (lineText (70 ∷ 44 ∷ []) s)) (sym e);
+      count = m;
     }
 
--- a fault line's start: the fixed bytes of its code
-pub starts : (k : ℕ) {c : ℕ} {o o′ : Bytes} {f r : ℕ} → c ≡ k → length (startText k) ≤ 7 → (r ≡ f + length (startText k)) × (o′ ≡ sets o f (startText k))
-    → Starts c o o′ f r
-starts k {c} {o} {o′} {f} {r} e l p =
-    subst (λ (n : ℕ). Starts n o o′ f r) (sym e) (record { appended = wrote (startText k) p; short = omega (arith, p .0, l) })
+-- a fault's code: its fixed bytes
+pub starts : (k : ℕ) {c : ℕ} {o o′ : Bytes} {r : ℕ} → c ≡ k → length (codeText k) ≤ 5 → (r ≡ 0 + length (codeText k)) × (o′ ≡ sets o 0 (codeText k))
+    → Starts c o o′ r
+starts k {c} {o} {o′} {r} e l p =
+    subst (λ (n : ℕ). Starts n o o′ r) (sym e) (record { appended = wrote (codeText k) p; short = omega (arith, p .0, l) })
 
 -- the code that is left
 pub last-code : (c : ℕ) → IsFaultCode c → (c ≡ 2009 → ⊥) → (c ≡ 2010 → ⊥) → (c ≡ 2011 → ⊥) → (c ≡ 2012 → ⊥) → (c ≡ 2013 → ⊥) → c ≡ 5012
@@ -90,44 +121,54 @@ last-code c (inl (inr (inr (inr e)))) h i j k l = absurd (l e)
 last-code c (inr (inl e)) h i j k l = absurd (k e)
 last-code c (inr (inr e)) h i j k l = e
 
--- the texts of the lines
-abbrev CodeLine : Ty → ℕ → Type 0
-CodeLine t c = faultLine (codeFault c t) ++ (10 ∷ []) ≡ startText c ++ (typeName t ++ (10 ∷ []))
+-- what the lines have behind `F,`
+abbrev CodeBody : Ty → ℕ → Type 0
+CodeBody t c = faultText (codeFault c t) ≡ codeText c ++ typeName t
 
-pub code-line : (c : ℕ) (t : Ty) → IsCode c → faultLine (codeFault c t) ++ (10 ∷ []) ≡ startText c ++ (typeName t ++ (10 ∷ []))
-unfolding faultLine faultText codeFault text shown shownIn
-code-line c t (inl e) = subst (CodeLine t) (sym e) refl
-code-line c t (inr (inl e)) = subst (CodeLine t) (sym e) refl
-code-line c t (inr (inr (inl e))) = subst (CodeLine t) (sym e) refl
-code-line c t (inr (inr (inr e))) = subst (CodeLine t) (sym e) refl
+pub code-body : (c : ℕ) (t : Ty) → IsCode c → faultText (codeFault c t) ≡ codeText c ++ typeName t
+unfolding faultText codeFault text shown shownIn
+code-body c t (inl e) = subst (CodeBody t) (sym e) refl
+code-body c t (inr (inl e)) = subst (CodeBody t) (sym e) refl
+code-body c t (inr (inr (inl e))) = subst (CodeBody t) (sym e) refl
+code-body c t (inr (inr (inr e))) = subst (CodeBody t) (sym e) refl
 
-pub in-line : (t u : Ty) → faultLine (E2012 t u) ++ (10 ∷ []) ≡ startText 2012 ++ (typeName t ++ (44 ∷ (typeName u ++ (10 ∷ []))))
-unfolding faultLine faultText text shown shownIn
-in-line t u = simp append-assoc
+pub in-body : (t u : Ty) → faultText (E2012 t u) ≡ codeText 2012 ++ (typeName t ++ (44 ∷ typeName u))
+unfolding faultText text shown shownIn
+in-body t u = refl
 
-pub call-line : (b : Builtin) (t : Ty) (s : ArgShape)
-    → faultLine (E5012 b t s) ++ (10 ∷ []) ≡ startText 5012 ++ (signature b .name ++ (44 ∷ (typeName t ++ (44 ∷ (describe s ++ (10 ∷ []))))))
-unfolding faultLine faultText text shown shownIn
-call-line b t s = simp append-assoc
+pub call-body : (b : Builtin) (t : Ty) (s : ArgShape)
+    → faultText (E5012 b t s) ≡ codeText 5012 ++ (signature b .name ++ (44 ∷ (typeName t ++ (44 ∷ describe s))))
+unfolding faultText text shown shownIn
+call-body b t s = refl
 
 -- the one parameter
 pub only : {s p : ArgShape} → _≡_ {A = List ArgShape} (s ∷ []) (p ∷ []) → s ≡ p
 only e = cc
 
 -- how long they are
-pub type-name-short : (t : Ty) → length (typeName t) ≤ 12
+type-name-short : (t : Ty) → length (typeName t) ≤ 12
 type-name-short t = name-part t .short
 
-line-short : (f : Fault) → length (faultLine f) ≤ 127
-unfolding faultLine faultText text
-line-short (E2009 t) = omega (arith, type-name-short t)
-line-short (E2010 t) = omega (arith, type-name-short t)
-line-short (E2011 t) = omega (arith, type-name-short t)
-line-short (E2013 t) = omega (arith, type-name-short t)
-line-short (E2012 t u) = omega (arith, type-name-short t, type-name-short u, length-append (typeName t) (44 ∷ typeName u))
-line-short (E5012 b t s) =
+pub name-end : (t : Ty) {o o′ : Bytes} {f r : ℕ} → Appends (typeName t) o o′ f r → r ≤ f + 12
+name-end t w = omega (arith, w .end, type-name-short t)
+
+body-short : (f : Fault) → length (faultText f) ≤ 51
+unfolding faultText text
+body-short (E2009 t) = omega (arith, type-name-short t)
+body-short (E2010 t) = omega (arith, type-name-short t)
+body-short (E2011 t) = omega (arith, type-name-short t)
+body-short (E2013 t) = omega (arith, type-name-short t)
+body-short (E2012 t u) = omega (arith, type-name-short t, type-name-short u, length-append (typeName t) (44 ∷ typeName u))
+body-short (E5012 b t s) =
     let x : Bytes = typeName t ++ (44 ∷ describe s) in
     omega (arith, name-short b, type-name-short t, describe-short s, length-append (typeName t) (44 ∷ describe s), length-append (signature b .name) (44 ∷ x))
+
+line-short : (f : Fault) → length (faultLine f) ≤ 127
+unfolding faultLine
+line-short f = omega (arith, body-short f)
+
+pub fault-body : (f : Fault) {s l : Bytes} {k : ℕ} → faultText f ≡ s → Appends s room l 0 k → Body (faultText f) l k
+fault-body f e p = rw e (body p (omega (arith, body-short f, ap length e)))
 
 pub fault-short : (f : Fault) → length (faultsText (f ∷ [])) ≤ 128
 unfolding faultsText

@@ -37,19 +37,19 @@ numbersText s n m = s ++ (shown n ++ (44 ∷ (shown m ++ (10 ∷ []))))
 abbrev pub endText : ℕ → ℕ → Bytes
 endText n m = numbersText (text "end,") n m
 
--- a fault line up to what it tells
-abbrev pub startText : ℕ → Bytes
-startText c = 70 ∷ 44 ∷ (shown c ++ (44 ∷ []))
+-- a fault's code and a comma, which the line has behind `F,`
+abbrev pub codeText : ℕ → Bytes
+codeText c = shown c ++ (44 ∷ [])
 
 -- these bytes are behind what was filled, and no fault was counted
 pub record Appends (s : Bytes) (out out′ : Bytes) (fill fill′ : ℕ) : Type 0 where
   pub text : out′ ≡ sets out fill s
   pub end : fill′ ≡ fill + length s
 
--- the same of a fault line's start, which is short
-pub record Starts (c : ℕ) (out out′ : Bytes) (fill fill′ : ℕ) : Type 0 where
-  pub appended : Appends (startText c) out out′ fill fill′
-  pub short : fill′ ≤ fill + 7
+-- a fault's body starts with its code, which is short
+pub record Starts (c : ℕ) (body body′ : Bytes) (end : ℕ) : Type 0 where
+  pub appended : Appends (codeText c) body body′ 0 end
+  pub short : end ≤ 5
 
 -- the same of a line of two numbers, which have at most 20 digits
 pub record NumbersLine (s : Bytes) (n m : ℕ) (out out′ : Bytes) (fill fill′ : ℕ) : Type 0 where

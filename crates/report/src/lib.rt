@@ -1,18 +1,18 @@
-// The lines of the report: appended to the output, what fits written, all counted (RULES 6).
+// The lines of the report, each written by `writer::line`: appended to the output, what fits written, all counted (RULES 6).
 ghost use mathlib.Core.Path.{_≡_};
 ghost use mathlib.Core.List.{[], _∷_};
 ghost use Prim.Native.Nat.{_+_, _<_, _^_};
 ghost use lib.ListN.{length};
 ghost use Rattle.semantics.specs.Bytes.{text};
 ghost use Rattle.semantics.specs.Ty.{Ty, line};
-ghost use Rattle.semantics.specs.Walk.{E2012, E5012, require, aNumber, aString, aBool};
+ghost use Rattle.semantics.specs.Walk.{Fault, E2012, E5012, require, aNumber, aString, aBool};
 ghost use Rattle.semantics.specs.Builtins.{signature};
+ghost use Rattle.semantics.specs.Calls.{faultText};
 ghost use Rattle.ty.specs.Read.{kindOf};
 ghost use Rattle.ty.specs.Kind.{SomeKind};
 ghost use Rattle.builtins.specs.Rows.{builtinOf};
 ghost use Rattle.report.specs.Report.{Appends, Starts, Adds, codeFault, IsCode, IsFaultCode, OpenKind, NumericKind, NumbersLine, typeText, endText};
 use text::COMMA;
-use text::LINE_END;
 use ty::ANY;
 use ty::BOOL;
 use ty::FLOAT;
@@ -46,28 +46,34 @@ pub struct Tally {
     pub faults: usize,
 }
 
-fn tallied(t: Tally, fill: usize) -> Tally
-    requires { ⌜ t .faults + 1 < 2 ^ 64 ⌝ }
-    ensures { λ r. ⌜ (r .fill ≡ fill) × (r .faults ≡ t .faults + 1) ⌝ }
+// The room for a body, all of a line between its head and its end, which is put together before the line is written: the longest,
+// of a fault of a built-in, has 51 bytes.
+const BODY_ROOM: usize = 64;
+
+// A fault line of this body, counted.
+fn fault_line(out: &mut [u8], t: Tally, body: &[u8]) -> Tally
+    requires { ⌜ (t .fill + length (now body) + 3 < 2 ^ 64) × (t .faults + 1 < 2 ^ 64) ⌝ }
+    ensures { λ r. ⌜ ((f : Fault) → faultText f ≡ now (body .entry) → Adds (f ∷ []) (now (out .entry)) (now (out .exit)) t r) ⌝ }
 {
+    let end = writer::line(out, t.fill, b"F,", body);
     Tally {
-        fill,
+        fill: end,
         faults: t.faults + 1,
     }
 }
 
-// `F,` and the code and a comma: each code's bytes are fixed, no digit is worked out.
-fn fault_start(out: &mut [u8], fill: usize, code: u64) -> usize
-    requires { ⌜ (fill + 7 < 2 ^ 64) × IsFaultCode code ⌝ }
-    ensures { λ r. ⌜ Starts code (now (out .entry)) (now (out .exit)) fill r ⌝ }
+// The code and a comma, which a fault's body starts with: each code's bytes are fixed, no digit is worked out.
+fn fault_code(body: &mut [u8], code: u64) -> usize
+    requires { ⌜ IsFaultCode code ⌝ }
+    ensures { λ r. ⌜ Starts code (now (body .entry)) (now (body .exit)) r ⌝ }
 {
     match code {
-        E2009 => text::append(out, fill, b"F,2009,"),
-        E2010 => text::append(out, fill, b"F,2010,"),
-        E2011 => text::append(out, fill, b"F,2011,"),
-        E2012 => text::append(out, fill, b"F,2012,"),
-        E2013 => text::append(out, fill, b"F,2013,"),
-        _ => text::append(out, fill, b"F,5012,"),
+        E2009 => text::append(body, 0, b"2009,"),
+        E2010 => text::append(body, 0, b"2010,"),
+        E2011 => text::append(body, 0, b"2011,"),
+        E2012 => text::append(body, 0, b"2012,"),
+        E2013 => text::append(body, 0, b"2013,"),
+        _ => text::append(body, 0, b"5012,"),
     }
 }
 
@@ -76,10 +82,10 @@ pub fn fault(out: &mut [u8], t: Tally, code: u64, kind: u8) -> Tally
     requires { ⌜ (t .fill + 128 < 2 ^ 64) × (t .faults + 1 < 2 ^ 64) × IsCode code × SomeKind kind ⌝ }
     ensures { λ r. ⌜ ((u : Ty) → kindOf u ≡ kind → Adds (codeFault code u ∷ []) (now (out .entry)) (now (out .exit)) t r) ⌝ }
 {
-    let f = fault_start(out, t.fill, code);
-    let g = ty::append_type_name(out, f, kind);
-    let end = text::put(out, g, LINE_END);
-    tallied(t, end)
+    let mut body = [0u8; BODY_ROOM];
+    let n = fault_code(&mut body, code);
+    let end = ty::append_type_name(&mut body, n, kind);
+    fault_line(out, t, &body[..end])
 }
 
 // A fault of IN: the operand's and the element's type.
@@ -87,12 +93,12 @@ pub fn fault_in(out: &mut [u8], t: Tally, kind: u8, element: u8) -> Tally
     requires { ⌜ (t .fill + 128 < 2 ^ 64) × (t .faults + 1 < 2 ^ 64) × SomeKind kind × SomeKind element ⌝ }
     ensures { λ r. ⌜ ((u v : Ty) → kindOf u ≡ kind → kindOf v ≡ element → Adds (E2012 u v ∷ []) (now (out .entry)) (now (out .exit)) t r) ⌝ }
 {
-    let f = fault_start(out, t.fill, E2012);
-    let g = ty::append_type_name(out, f, kind);
-    let h = text::put(out, g, COMMA);
-    let i = ty::append_type_name(out, h, element);
-    let end = text::put(out, i, LINE_END);
-    tallied(t, end)
+    let mut body = [0u8; BODY_ROOM];
+    let n = fault_code(&mut body, E2012);
+    let m = ty::append_type_name(&mut body, n, kind);
+    let k = text::put(&mut body, m, COMMA);
+    let end = ty::append_type_name(&mut body, k, element);
+    fault_line(out, t, &body[..end])
 }
 
 // A fault of a built-in: its name, the argument's type, what was expected.
@@ -100,14 +106,14 @@ pub fn fault_call(out: &mut [u8], t: Tally, row: usize, kind: u8) -> Tally
     requires { ⌜ (t .fill + 128 < 2 ^ 64) × (t .faults + 1 < 2 ^ 64) × (row < 7) × SomeKind kind ⌝ }
     ensures { λ r. ⌜ ((u : Ty) → kindOf u ≡ kind → (s : _) → signature (builtinOf row) .params ≡ s ∷ [] → Adds (E5012 (builtinOf row) u s ∷ []) (now (out .entry)) (now (out .exit)) t r) ⌝ }
 {
-    let f = fault_start(out, t.fill, E5012);
-    let g = builtins::append_name(out, f, row);
-    let h = text::put(out, g, COMMA);
-    let i = ty::append_type_name(out, h, kind);
-    let j = text::put(out, i, COMMA);
-    let k = builtins::append_shape(out, j, builtins::shape_of(row));
-    let end = text::put(out, k, LINE_END);
-    tallied(t, end)
+    let mut body = [0u8; BODY_ROOM];
+    let n = fault_code(&mut body, E5012);
+    let m = builtins::append_name(&mut body, n, row);
+    let k = text::put(&mut body, m, COMMA);
+    let i = ty::append_type_name(&mut body, k, kind);
+    let j = text::put(&mut body, i, COMMA);
+    let end = builtins::append_shape(&mut body, j, builtins::shape_of(row));
+    fault_line(out, t, &body[..end])
 }
 
 // Whether a type lets every requirement through: Any and Unknown.
@@ -174,9 +180,7 @@ pub fn type_line(out: &mut [u8], fill: usize, text: &[u8]) -> usize
     requires { ⌜ fill + length (now text) + 3 < 2 ^ 64 ⌝ }
     ensures { λ r. ⌜ ((u : Ty) → now (text .entry) ≡ line u → Appends (typeText u) (now (out .entry)) (now (out .exit)) fill r) ⌝ }
 {
-    let f = text::append(out, fill, b"T,");
-    let g = text::append(out, f, text);
-    text::put(out, g, LINE_END)
+    writer::line(out, fill, b"T,", text)
 }
 
 // A line of a head and two numbers.
@@ -184,11 +188,11 @@ pub fn numbers_line(out: &mut [u8], fill: usize, head: &[u8], first: u64, second
     requires { ⌜ fill + length (now head) + 42 < 2 ^ 64 ⌝ }
     ensures { λ r. ⌜ NumbersLine (now (head .entry)) first second (now (out .entry)) (now (out .exit)) fill r ⌝ }
 {
-    let f = text::append(out, fill, head);
-    let g = text::append_decimal(out, f, first);
-    let h = text::put(out, g, COMMA);
-    let i = text::append_decimal(out, h, second);
-    text::put(out, i, LINE_END)
+    let mut body = [0u8; BODY_ROOM];
+    let n = text::append_decimal(&mut body, 0, first);
+    let m = text::put(&mut body, n, COMMA);
+    let end = text::append_decimal(&mut body, m, second);
+    writer::line(out, fill, head, &body[..end])
 }
 
 // The last line.

@@ -1,4 +1,4 @@
--- The report and the two calls: number, returned numbers and every byte of both buffers (RULES 6 and 7).
+-- The report, the text that `typesheet` prints, and the two calls: number, returned numbers and every byte of both buffers (RULES 6 and 7).
 use mathlib.Core.List.{List, [], _∷_, _++_, map as mapL}
 use mathlib.Core.Option.{Option, none, some}
 use mathlib.Core.Bool.{Bool, true, false}
@@ -90,6 +90,21 @@ judged (heads hs) = limited (firstLarge (allTests (results hs))) hs
 
 unfoldable pub outcome : Bytes → Outcome
 outcome s = judged (sheet depthLimit s)
+
+-- ## What the program `typesheet` prints (RULES 7.9)
+
+-- the line of a refusal
+unfoldable pub refusedText : ℕ → ℕ → Bytes
+refusedText c n = text "refused," ++ (shown c ++ (44 ∷ (shown n ++ (10 ∷ []))))
+
+-- of an outcome, with so much room for a report
+unfoldable pub outcomeText : ℕ → Outcome → Bytes
+outcomeText room (refusal c n) = refusedText c n
+outcomeText room (accepted s) = elim (ltb room (length s)) [ true ↦ refusedText 7 0 | false ↦ s ]
+
+-- of a sheet
+unfoldable pub sheetText : ℕ → Bytes → Bytes
+sheetText room s = elim (ltb sheetLimit (length s)) [ true ↦ refusedText 1 0 | false ↦ outcomeText room (outcome s) ]
 
 -- ## The calls
 

@@ -6,9 +6,7 @@ pub mod LabelLaws
 pub mod Labels
 pub mod Lent
 pub mod Lines
-pub mod LoneLaws
 pub mod Loops
-pub mod MapLaws
 pub mod MergeLaws
 pub mod NameLaws
 pub mod Places

@@ -1,10 +1,10 @@
 -- What is kept at `to` of two lists below it. Assumes nothing.
-use Prim.Native.Nat.{ℕ, suc, zero, _+_, _-_, _≤_, _<_}
+use Prim.Native.Nat.{ℕ, _+_, _-_, _≤_, _<_}
 use native.Mathlib.Omega.{arith}
 use mathlib.Core.Path.{_≡_, refl, sym, ap, ap₂, _∙_}
 use mathlib.Core.Bool.{Bool, true, false, cond}
-use mathlib.Core.List.{List, [], _∷_, _++_}
-use mathlib.Core.Option.{Option, none, some}
+use mathlib.Core.List.{[], _∷_, _++_}
+use mathlib.Core.Option.{some}
 use borrow.Author.Tests.{eq-eqb, ne-eqb, eqb-true, eqb-false, lt-ltb, le-ltb, ltb-true, ltb-false}
 use lib.Dec.{eqb, ltb}
 use lib.ListN.{length, take, drop, length-append}
@@ -215,39 +215,6 @@ closed-stands s to n acc h room w =
 -- a line that was begun
 pub kept-first : (s : Bytes) (to : ℕ) (acc : Bytes) → 0 < length acc → length acc + 2 ≤ 1024 → slice to (to + length acc) s ≡ acc → Kept s to (length acc) acc
 kept-first s to acc h w e = record { some = h; size = sym (kept-in (length acc) w); stands = λ _. e }
-
--- what already stands behind the line
-pub kept-stood : (s : Bytes) (k to n : ℕ) (acc x : Bytes) → Kept s to n acc → (0 < n → slice (to + n) (to + n + k) s ≡ x) → k ≡ length x → Kept s to (keptOf n k) (acc ++ x)
-kept-stood s k to n acc x h e l = go (over? (length acc))
-  where
-    long : length (acc ++ x) ≡ length acc + k
-    long = length-append acc x ∙ omega (arith, l)
-
-    go : Over (length acc) → Kept s to (keptOf n k) (acc ++ x)
-    go (over w q) =
-        let z : n ≡ 0 = omega (arith, h .size, q) in
-        let o : keptOf n k ≡ 0 = ap (λ (j : ℕ). keptOf j k) z ∙ keptOf-over k in
-        record {
-          some = omega (arith, long, h .some);
-          size = o ∙ sym (kept-over (length (acc ++ x)) (omega (arith, long, w)));
-          stands = λ p. absurd (omega (arith, p, o));
-        }
-    go (within w q) =
-        let z : n ≡ length acc = omega (arith, h .size, q) in
-        let pos : 0 < n = omega (arith, z, h .some) in
-        record {
-          some = omega (arith, long, h .some);
-          size = keptOf-more n k pos ∙ ap keptLength (omega (arith, z, long));
-          stands = λ p. full z pos (kept-room n k (keptOf n k) refl p) (over? (n + k));
-        }
-      where
-        full : n ≡ length acc → 0 < n → n + k + 2 ≤ 1024 → Over (n + k) → slice to (to + keptOf n k) s ≡ acc ++ x
-        full z pos r (over a b) = absurd (omega (arith, a, r))
-        full z pos r (within a b) =
-            let size : to + keptOf n k ≡ to + n + k = omega (arith, keptOf-more n k pos, b) in
-            ap (λ (j : ℕ). slice to j s) size
-            ∙ sym (slice-join to (to + n) (to + n + k) s (omega arith) (omega arith))
-            ∙ ap₂ (λ (y v : Bytes). y ++ v) (h .stands pos) (e pos)
 
 -- a line that was ended: too long, or there
 pub record Closed (s s′ : Bytes) (to : ℕ) (w : Bytes) (r : Grown) : Type 0 where

@@ -1,13 +1,10 @@
 -- A union that is too large stays so as members join it: whoever adds members one by one may stop at the first that is. Assumes nothing.
 use mathlib.Core.Path.{_≡_, refl, ap}
 use mathlib.Core.List.{List, [], _∷_}
-use mathlib.Core.Bool.{Bool, true, false, _||_}
+use mathlib.Core.Bool.{true}
 use Prim.Native.Nat.{ℕ, suc, _+_, _≤_}
 use native.Mathlib.Omega.{arith}
-use lib.Dec.{ltb}
 use lib.ListN.{length, length-append}
-use borrow.Author.Tests.{lt-ltb, ltb-true}
-use Rattle.semantics.specs.Limits.{typeLimit, nestingLimit}
 use Rattle.semantics.specs.Ty.{Ty, lineTo, line, nesting, nestingS, tooLarge, insert, inserts, opened, gather, pack, joined}
 use Rattle.semantics.proofs.Order.{TriTy, lt, eq, gt, triTy, insert-lt, insert-eq, insert-gt}
 use Rattle.ty.specs.Parts.{linesOf}
@@ -134,24 +131,6 @@ gather-grows (t ∷ ts) ms =
     no-less (joined ms) (joined (inserts (opened t) ms)) (joined (gather ts (inserts (opened t) ms))) (inserts-grow (opened t) ms) (gather-grows ts (inserts (opened t) ms))
 
 -- ## What is too large stays so
-
-above-stays : (m a b : ℕ) → a ≤ b → ltb m a ≡ true → ltb m b ≡ true
-above-stays m a b h p = lt-ltb m b (omega (arith, ltb-true m a p))
-
-pub overlong-stays : (ms us : List Ty) → NoLess (joined ms) (joined us) → overlong ms ≡ true → overlong us ≡ true
-unfolding overlong
-overlong-stays ms us h p = above-stays typeLimit (length (line (joined ms))) (length (line (joined us))) (h .bytes) p
-
-either : (a b c d : Bool) → (a ≡ true → c ≡ true) → (b ≡ true → d ≡ true) → (a || b) ≡ true → (c || d) ≡ true
-either true b c d f g p = rw (f refl)
-either false b false d f g p = g p
-either false b true d f g p = refl
-
-pub large-stays : {a b : Ty} → NoLess a b → tooLarge a ≡ true → tooLarge b ≡ true
-unfolding tooLarge
-large-stays {a} {b} h p =
-    either (ltb typeLimit (length (line a))) (ltb nestingLimit (nesting a)) (ltb typeLimit (length (line b))) (ltb nestingLimit (nesting b))
-    (above-stays typeLimit (length (line a)) (length (line b)) (h .bytes)) (above-stays nestingLimit (nesting a) (nesting b) (h .depth)) p
 
 -- a union that is too long is too large
 pub overlong-large : (ms : List Ty) → overlong ms ≡ true → tooLarge (joined ms) ≡ true

@@ -1,15 +1,15 @@
--- Two lists of names below a place `to`, each ended by `!`, and what is kept of them in a line at `to`: what the contracts of merging.rt, label_sets.rt and lone.rt cite.
+-- Two lists of names below a place `to`, each ended by `!`, and what is kept of them in a line at `to`: what the contracts of merging.rt and label_sets.rt cite.
 use Prim.Native.Nat.{ℕ, _+_, _≤_, _<_, Ordering, Ordering·lt, Ordering·eq, Ordering·gt}
 use mathlib.Core.Path.{_≡_}
-use mathlib.Core.Bool.{Bool, true, false, cond}
-use mathlib.Core.List.{List, [], _∷_, _++_}
+use mathlib.Core.Bool.{true, cond}
+use mathlib.Core.List.{List, [], _∷_}
 use mathlib.Core.Option.{Option, none, some}
 use lib.Dec.{eqb, ltb}
-use lib.ListN.{length, take, drop}
+use lib.ListN.{length, drop}
 use lib.Seq.{slice, sets}
 use Rattle.semantics.specs.Limits.{typeLimit}
 use Rattle.semantics.specs.Bytes.{Bytes, lex}
-use Rattle.semantics.specs.Ty.{Ty, tNode, Fields, ∅ᶠ, field, nameTo, lineTo, fieldsTo, line, insertNames, ascending}
+use Rattle.semantics.specs.Ty.{Ty, tNode, nameTo, line, insertNames, ascending}
 use Rattle.ty.specs.Parts.{TypeAt}
 use Rattle.ty.specs.Made.{Made, made}
 use Rattle.ty.specs.declared.Grown.{Grown}
@@ -114,63 +114,6 @@ MergedLabels s s′ a b to r = (ae be : ℕ) (ls ks : List Bytes) → LabelsAt s
 
 -- ## Entries
 
--- an entry, and entries one after the other
+-- an entry
 unfoldable pub entryTo : Bytes → Ty → Bytes
 entryTo n t = nameTo n (line t)
-
-unfoldable pub entriesTo : List (Bytes × Ty) → Bytes
-entriesTo [] = []
-entriesTo ((n, t) ∷ es) = entryTo n t ++ entriesTo es
-
-pub record EntryAt (s : Bytes) (p : ℕ) (n : Bytes) (t : Ty) : Type 0 where
-  pub rest : Bytes
-  pub is : drop p s ≡ nameTo n (lineTo t rest)
-
-pub record SomeEntry (s : Bytes) (p : ℕ) : Type 0 where
-  pub name : Bytes
-  pub ty : Ty
-  pub at : EntryAt s p name ty
-
-abbrev pub EntryLong : Bytes → ℕ → ℕ → Type 0
-EntryLong s p r = (n : Bytes) (t : Ty) → EntryAt s p n t → r ≡ length (entryTo n t)
-
--- the entries fs and gs are left of two maps that end at ae and be, and acc is what was kept of them
-pub record MapsAt (s : Bytes) (m : Merge) (to ae be : ℕ) (acc : Bytes) (fs gs : Fields) : Type 0 where
-  pub first : slice (m .p) ae s ≡ fieldsTo fs []
-  pub second : slice (m .q) be s ≡ fieldsTo gs []
-  pub p-in : m .p ≤ ae
-  pub q-in : m .q ≤ be
-  pub p-below : ae ≤ to
-  pub q-below : be ≤ to
-  pub kept : Kept s to (m .n) acc
-
-pub record SomeMaps (s : Bytes) (m : Merge) (to : ℕ) : Type 0 where
-  pub first-end : ℕ
-  pub second-end : ℕ
-  pub acc : Bytes
-  pub firsts : Fields
-  pub seconds : Fields
-  pub at : MapsAt s m to first-end second-end acc firsts seconds
-
-abbrev pub firstName : Fields → Option Bytes
-firstName ∅ᶠ = none
-firstName (field n t fs) = some n
-
--- es are the entries that one of two maps has alone, up to the first name that both have or the end of both; ls and rs are left
-pub data Lone : Fields → Fields → List (Bytes × Ty) → Fields → Fields → Type 0 where
-  stop : {fs gs : Fields} → 2 ≤ nextOf (firstName fs) (firstName gs) → Lone fs gs [] fs gs
-  left : {n : Bytes} {t : Ty} {fs gs ls rs : Fields} {es : List (Bytes × Ty)} → nextOf (some n) (firstName gs) ≡ 0 → Lone fs gs es ls rs → Lone (field n t fs) gs ((n, t) ∷ es) ls rs
-  right : {n : Bytes} {t : Ty} {fs gs ls rs : Fields} {es : List (Bytes × Ty)} → nextOf (firstName fs) (some n) ≡ 1 → Lone fs gs es ls rs → Lone fs (field n t gs) ((n, t) ∷ es) ls rs
-
--- those are kept, and nothing below `to` has changed
-pub record LoneKept (s s′ : Bytes) (m′ : Merge) (to ae be : ℕ) (acc : Bytes) (fs gs : Fields) : Type 0 where
-  pub entries : List (Bytes × Ty)
-  pub firsts : Fields
-  pub seconds : Fields
-  pub lone : Lone fs gs entries firsts seconds
-  pub at : MapsAt s′ m′ to ae be (acc ++ entriesTo entries) firsts seconds
-  pub below : take to s′ ≡ take to s
-  pub long : length s′ ≡ length s
-
-abbrev pub LonesKept : Bytes → Bytes → Merge → Merge → ℕ → Type 0
-LonesKept s s′ m m′ to = (ae be : ℕ) (acc : Bytes) (fs gs : Fields) → MapsAt s m to ae be acc fs gs → LoneKept s s′ m′ to ae be acc fs gs

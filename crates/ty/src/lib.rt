@@ -2,7 +2,6 @@
 mod end;
 mod label_sets;
 mod letters;
-mod lone;
 mod map;
 mod merging;
 mod names;
@@ -10,7 +9,6 @@ mod reader;
 mod union;
 
 pub use end::LABELS;
-pub use end::NAME;
 pub use end::NO_TYPE;
 pub use end::NOTHING;
 pub use end::TYPES;
@@ -20,7 +18,6 @@ pub use end::fits;
 pub use end::is_field;
 pub use end::letter;
 pub use end::nesting_end;
-pub use end::next_field;
 pub use end::part_follows;
 pub use end::type_end;
 pub use end::value_at;
@@ -28,8 +25,6 @@ pub use label_sets::merge_labels;
 pub use letters::ANY;
 pub use letters::BOOL;
 pub use letters::CLOSE;
-pub use letters::DATE;
-pub use letters::DATETIME;
 pub use letters::FLOAT;
 pub use letters::INT;
 pub use letters::LIST;
@@ -43,7 +38,6 @@ pub use letters::RELATIONSHIP;
 pub use letters::STRING;
 pub use letters::UNION;
 pub use letters::UNKNOWN;
-pub use lone::keep_lone;
 pub use map::Spot;
 pub use map::entry_spot;
 pub use map::insert_entry;
@@ -64,24 +58,13 @@ pub use union::add_members;
 pub use union::add_union;
 pub use union::close_union;
 ghost use mathlib.Core.Path.{_≡_};
-ghost use lib.ListN.{drop};
-ghost use Rattle.semantics.specs.Bytes.{Bytes};
-ghost use Rattle.semantics.specs.Ty.{Ty, tList, lineTo, line};
-ghost use Rattle.ty.specs.Parts.{TypeFrom};
-ghost use Rattle.ty.specs.Read.{kindOf, ListLine};
+ghost use Rattle.semantics.specs.Ty.{Ty, tList, line};
+ghost use Rattle.ty.specs.Read.{ListLine};
 
 // The length of what was made, or that it is too large.
 pub enum Grown {
     Len(usize),
     TooLarge,
-}
-
-// The letter of the type at `at`.
-pub fn kind(s: &[u8], at: usize) -> u8
-    requires { ⌜ TypeFrom (now s) at ⌝ }
-    ensures { λ r. ⌜ ((t : Ty) (rest : Bytes) → drop at (now (s .entry)) ≡ lineTo t rest → r ≡ kindOf t) ⌝ }
-{
-    s[at]
 }
 
 // The element of a list type: that part of its line.

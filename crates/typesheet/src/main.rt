@@ -1,30 +1,34 @@
 // Types the sheet on standard input: writes its report, or `refused,NUMBER,PLACE` and LF.
 use libc::STDIN_FILENO;
 use libc::STDOUT_FILENO;
+ghost use mathlib.Core.Path.{_≡_};
+ghost use Prim.Native.Nat.{_≤_};
+ghost use lib.ListN.{length, take};
+ghost use Rattle.semantics.specs.Calls.{sheetText};
 
-// A refusal.
-fn say_refused(number: u32, place: u64) {
-    let mut line = [0u8; 64];
-    let n = report::refused_line(&mut line, 0, number as u64, place);
-    io::write_all(STDOUT_FILENO, &line[..n]);
-}
+// One byte more than a sheet may have: a longer input fills it, and is refused.
+const SHEET_ROOM: usize = 65536;
 
-// A sheet's outcome.
-fn say_typed(sheet: &[u8], work: &mut [u8], out: &mut [u8]) {
-    let c = cyrs::infer_types(sheet, work, out);
-    if c.number != 0 {
-        say_refused(c.number, c.first);
-        return;
+// A longer report is refused (RULES 7.9).
+const REPORT_ROOM: usize = 65536;
+
+// What is printed of a sheet, at the front of the output: its length. The line of a refusal has at most 50 bytes.
+fn print_sheet(sheet: &[u8], out: &mut [u8]) -> usize
+    requires { ⌜ 64 ≤ length (now out) ⌝ }
+    ensures { λ r. ⌜ (r ≤ length (now (out .entry))) × (take r (now (out .exit)) ≡ sheetText (length (now (out .entry))) (now (sheet .entry))) ⌝ }
+{
+    let mut work = [0u8; semantics::WORK_SIZE];
+    let c = cyrs::infer_types(sheet, &mut work, out);
+    if c.number == semantics::ACCEPTED {
+        return c.first as usize;
     }
-    let n = c.first as usize;
-    io::write_all(STDOUT_FILENO, &out[..n]);
+    report::refused_line(out, 0, c.number as u64, c.first)
 }
 
-// There is room for one byte more than a sheet may have: a longer input fills it, and is refused.
 fn main() {
-    let mut sheet = [0u8; 65536];
-    let n = io::read_full(STDIN_FILENO, &mut sheet);
-    let mut work = [0u8; 65536];
-    let mut out = [0u8; 65536];
-    say_typed(&sheet[..n], &mut work, &mut out);
+    let mut sheet = [0u8; SHEET_ROOM];
+    let read = io::read_full(STDIN_FILENO, &mut sheet);
+    let mut out = [0u8; REPORT_ROOM];
+    let n = print_sheet(&sheet[..read], &mut out);
+    io::write_all(STDOUT_FILENO, &out[..n]);
 }

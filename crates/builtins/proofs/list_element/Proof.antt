@@ -1,8 +1,10 @@
 -- `list_element`: by the first byte. Assumes nothing.
 use borrow.Author.Needs.{needs}
 use native.Mathlib.Omega.{arith}
+use mathlib.Core.Path.{sym}
+use lib.Seq.{length-take-le}
 use mathlib.Core.Logic.{inl, inr, ⊎-elim}
-use Rattle.builtins.proofs.Laws.{first-two, element-returned, element-other}
+use Rattle.builtins.proofs.Laws.{first-line, first-long, element-returned, element-other}
 use Rattle.builtins.proofs.list_element.Statement.{statement}
 use Rattle.builtins.proofs.list_element.Tie as tie
 use Rattle.builtins.proofs.list_element.Reads as reads
@@ -13,23 +15,26 @@ use Rattle.text.proofs.copy_in.Reads as copy-in-reads
 slice-read-if2 : tie.Need-slice-read-if2
 slice-read-if2 c = search needs
 
-sub-copy-in : tie.Need-sub-copy-in
-sub-copy-in c = let st = c .before .before .before .before .before in first-two (st .args .part .now) (st .args .len) (st .pre .types) (st .pre .first) (c .before .before .before .if1 .taken)
+slice-reshare-prefix-element : tie.Need-slice-reshare-prefix-element
+slice-reshare-prefix-element c = c .before .before .before .before .pre .within
+
+slice-aggregate-element : tie.Need-slice-aggregate-element
+slice-aggregate-element c = sym (length-take-le _ _ (c .before .before .before .before .before .pre .within))
+
+element-requires : tie.Need-element-requires
+element-requires c κs = let st = c .before .before .before .before .before in first-line (st .args .part .now) (st .args .len) (st .pre .types) (st .pre .first) (c .before .before .before .if1 .taken) (c .before .if2 .taken)
 
 copy-in-requires : tie.Need-copy-in-requires
 copy-in-requires c κs =
-    let st = c .before .before .before .before .before in
-    let two = first-two (st .args .part .now) (st .args .len) (st .pre .types) (st .pre .first) (c .before .before .before .if1 .taken) in
+    let st = c .before .before .before .before .before .before .before in
+    let long = first-long (st .args .part .now) _ (st .args .len) (st .pre .types) (st .pre .first) (c .before .before .before .before .before .if1 .taken) (c .before .before .before .if2 .taken) (c .before .element .ensures) in
     (omega (arith, st .pre .within), omega (arith, st .pre .within), inl (omega arith))
-
-sub-result : tie.Need-sub-result
-sub-result c = let st = c .before .before .before .before .before .before .before .before in first-two (st .args .part .now) (st .args .len) (st .pre .types) (st .pre .first) (c .before .before .before .before .before .before .if1 .taken)
 
 same-length : tie.Need-same-length
 same-length c = search needs
 
 returns : tie.Need-returns
-returns c ts h = let st = c .before .before .before .before .before .before .before .before in element-returned (st .args .part .now) _ (st .args .len) ts h (c .before .before .before .before .before .before .if1 .taken) (c .before .before .before .before .if2 .taken) (c .before .before .copy-in .ensures)
+returns c ts h = let st = c .before .before .before .before .before .before .before .before .before .before in element-returned (st .args .part .now) _ _ (st .args .len) ts h (c .before .before .before .before .before .before .before .before .if1 .taken) (c .before .before .before .before .before .before .if2 .taken) (c .before .before .before .before .element .ensures) (c .before .before .copy-in .ensures)
 
 slice-aggregate-append : tie.Need-slice-aggregate-append
 slice-aggregate-append c = search needs
@@ -51,9 +56,10 @@ list-element-spec =
     tie.close
     (tie.spec
     slice-read-if2
-    sub-copy-in
+    slice-reshare-prefix-element
+    slice-aggregate-element
+    element-requires
     copy-in-requires
-    sub-result
     same-length
     returns
     slice-aggregate-append

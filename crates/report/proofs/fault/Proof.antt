@@ -1,47 +1,72 @@
--- `fault`: the start, the name and the end of the line, one behind the other. Assumes nothing.
+-- `fault`: the body is the code and the name of the type. Assumes nothing.
 use borrow.Author.Needs.{needs}
 use native.Mathlib.Omega.{arith}
-use mathlib.Core.Logic.{inl, inr}
-use Rattle.semantics.specs.Calls.{typeName}
-use Rattle.report.specs.Report.{codeFault}
-use Rattle.report.proofs.ReportLaws.{_▹_, wrote, one, adds-one, code-line, type-name-short}
+use Prim.Native.Nat.{ℕ}
+use mathlib.Core.Path.{sym}
+use mathlib.Core.Logic.{inl}
+use Rattle.semantics.specs.Bytes.{Bytes}
+use Rattle.semantics.specs.Ty.{Ty}
+use Rattle.semantics.specs.Calls.{typeName, faultText}
+use Rattle.report.specs.Report.{Appends, Starts, IsCode, codeFault}
+use Rattle.report.proofs.ReportLaws.{_▹_, wrote, room, Body, fault-body, code-body}
 use Rattle.report.proofs.fault.Statement.{statement}
 use Rattle.report.proofs.fault.Tie as tie
 
-fault-start-requires : tie.Need-fault-start-requires
-fault-start-requires c κs = (search needs, inl (c .before .before .pre .2))
+told : (c : ℕ) (u : Ty) → IsCode c → {n end : ℕ} {l m : Bytes} → Starts c room l n → Appends (typeName u) l m n end → Body (faultText (codeFault c u)) m end
+told c u i s w = fault-body (codeFault c u) (code-body c u i) (s .appended ▹ w)
+
+slice-aggregate-fault-code : tie.Need-slice-aggregate-fault-code
+slice-aggregate-fault-code c = search needs
+
+fault-code-requires : tie.Need-fault-code-requires
+fault-code-requires c κs = inl (c .before .before .pre .2)
+
+slice-aggregate-append-type-name : tie.Need-slice-aggregate-append-type-name
+slice-aggregate-append-type-name c = search needs
 
 append-type-name-requires : tie.Need-append-type-name-requires
 append-type-name-requires c κs = search needs
 
-put-requires : tie.Need-put-requires
-put-requires c κs =
-    let p = c .before .before .before .before .before .before .before .before .before .before .pre in
-    let k = p .3 in
-    omega (arith, c .before .before .before .append-type-name .ensures (k .ty) (k .is) .0, type-name-short (k .ty))
+array-share-prefix-body : tie.Need-array-share-prefix-body
+array-share-prefix-body c =
+    let st = c .before .before .before .before .before .before .before .before in
+    let k = st .pre .3 in
+    let b = told (st .args .code) (k .ty) (st .pre .2) (c .before .before .before .before .before .fault-code .ensures) (wrote (typeName (k .ty)) (c .before .before .append-type-name .ensures (k .ty) (k .is))) in
+    omega (arith, b .inside)
 
-tallied-requires : tie.Need-tallied-requires
-tallied-requires c κs = search needs
+slice-aggregate-fault-line : tie.Need-slice-aggregate-fault-line
+slice-aggregate-fault-line c =
+    let st = c .before .before .before .before .before .before .before .before .before in
+    let k = st .pre .3 in
+    let b = told (st .args .code) (k .ty) (st .pre .2) (c .before .before .before .before .before .before .fault-code .ensures) (wrote (typeName (k .ty)) (c .before .before .before .append-type-name .ensures (k .ty) (k .is))) in
+    omega (arith, b .size)
+
+fault-line-requires : tie.Need-fault-line-requires
+fault-line-requires c κs =
+    let st = c .before .before .before .before .before .before .before .before .before in
+    let k = st .pre .3 in
+    let b = told (st .args .code) (k .ty) (st .pre .2) (c .before .before .before .before .before .before .fault-code .ensures) (wrote (typeName (k .ty)) (c .before .before .before .append-type-name .ensures (k .ty) (k .is))) in
+    (omega (arith, b .size, b .inside), st .pre .1)
 
 same-length : tie.Need-same-length
 same-length c = search needs
 
 returns : tie.Need-returns
 returns c u e =
-    let st = c .before .before .before .before .before .before .before .before .before .before .before .before .before .before in
-    adds-one (codeFault (st .args .code) u) (code-line (st .args .code) u (st .pre .2))
-    (c .before .before .before .before .before .before .before .before .before .before .before .fault-start .ensures .appended
-    ▹ wrote (typeName u) (c .before .before .before .before .before .before .before .append-type-name .ensures u e)
-    ▹ one 10 (c .before .before .before .put .ensures))
-    (c .tallied .ensures)
+    let st = c .before .before .before .before .before .before .before .before .before .before .before .before in
+    let b = told (st .args .code) u (st .pre .2) (c .before .before .before .before .before .before .before .before .before .fault-code .ensures) (wrote (typeName u) (c .before .before .before .before .before .before .append-type-name .ensures u e)) in
+    c .before .before .fault-line .ensures (codeFault (st .args .code) u) (sym (b .is))
 
 pub fault-spec : {M : Type 1} → statement M
 fault-spec =
     tie.close
     (tie.spec
-    fault-start-requires
+    slice-aggregate-fault-code
+    fault-code-requires
+    slice-aggregate-append-type-name
     append-type-name-requires
-    put-requires
-    tallied-requires
+    array-share-prefix-body
+    slice-aggregate-fault-line
+    fault-line-requires
     same-length
     returns)

@@ -1,67 +1,103 @@
--- `fault_in`: the parts of the line, one behind the other. Assumes nothing.
+-- `fault_in`: the body is the code and the names of the two types. Assumes nothing.
 use borrow.Author.Needs.{needs}
 use native.Mathlib.Omega.{arith}
+use Prim.Native.Nat.{ℕ}
+use mathlib.Core.Path.{refl, sym}
 use mathlib.Core.Logic.{inl, inr}
-use mathlib.Core.Path.{refl}
-use Rattle.semantics.specs.Calls.{typeName}
+use mathlib.Core.List.{[], _∷_}
+use Rattle.semantics.specs.Bytes.{Bytes}
+use Rattle.semantics.specs.Ty.{Ty}
 use Rattle.semantics.specs.Walk.{E2012}
-use Rattle.report.proofs.ReportLaws.{_▹_, wrote, one, adds-one, in-line, type-name-short}
+use Rattle.semantics.specs.Calls.{typeName, faultText}
+use Rattle.report.specs.Report.{Appends, Starts}
+use Rattle.report.proofs.ReportLaws.{_▹_, wrote, one, name-end, room, Body, fault-body, in-body}
 use Rattle.report.proofs.fault_in.Statement.{statement}
 use Rattle.report.proofs.fault_in.Tie as tie
 
-fault-start-requires : tie.Need-fault-start-requires
-fault-start-requires c κs = (search needs, inr (inl refl))
+told : (u v : Ty) {n m k end : ℕ} {l l₁ l₂ l₃ : Bytes} → Starts 2012 room l n → Appends (typeName u) l l₁ n m → Appends (44 ∷ []) l₁ l₂ m k → Appends (typeName v) l₂ l₃ k end
+    → Body (faultText (E2012 u v)) l₃ end
+told u v s w p x = fault-body (E2012 u v) (in-body u v) (s .appended ▹ w ▹ p ▹ x)
+
+slice-aggregate-fault-code : tie.Need-slice-aggregate-fault-code
+slice-aggregate-fault-code c = search needs
+
+fault-code-requires : tie.Need-fault-code-requires
+fault-code-requires c κs = inr (inl refl)
+
+slice-aggregate-append-type-name : tie.Need-slice-aggregate-append-type-name
+slice-aggregate-append-type-name c = search needs
 
 append-type-name-requires : tie.Need-append-type-name-requires
 append-type-name-requires c κs = search needs
 
+slice-aggregate-put : tie.Need-slice-aggregate-put
+slice-aggregate-put c = search needs
+
 put-requires : tie.Need-put-requires
 put-requires c κs =
-    let p = c .before .before .before .before .before .before .before .before .before .before .pre in
-    let k = p .2 in
-    omega (arith, c .before .before .before .append-type-name .ensures (k .ty) (k .is) .0, type-name-short (k .ty))
+    let k = c .before .before .before .before .before .before .before .before .pre .2 in
+    omega (arith, c .before .before .before .before .before .fault-code .ensures .short, name-end (k .ty) (wrote (typeName (k .ty)) (c .before .before .append-type-name .ensures (k .ty) (k .is))))
+
+slice-aggregate-append-type-name-2 : tie.Need-slice-aggregate-append-type-name-2
+slice-aggregate-append-type-name-2 c = search needs
 
 append-type-name-requires-2 : tie.Need-append-type-name-requires-2
 append-type-name-requires-2 c κs =
-    let p = c .before .before .before .before .before .before .before .before .before .before .before .before .before .before .pre in
-    let k = p .2 in
-    (omega (arith, c .before .before .before .before .before .before .before .append-type-name .ensures (k .ty) (k .is) .0, type-name-short (k .ty)), p .3)
+    let k = c .before .before .before .before .before .before .before .before .before .before .before .pre .2 in
+    let n = name-end (k .ty) (wrote (typeName (k .ty)) (c .before .before .before .before .before .append-type-name .ensures (k .ty) (k .is))) in
+    (omega (arith, c .before .before .before .before .before .before .before .before .fault-code .ensures .short, n, c .before .before .put .ensures .0), c .before .before .before .before .before .before .before .before .before .before .before .pre .3)
 
-put-requires-2 : tie.Need-put-requires-2
-put-requires-2 c κs =
-    let p = c .before .before .before .before .before .before .before .before .before .before .before .before .before .before .before .before .before .before .pre in
-    let k = p .2 in
-    let l = p .3 in
-    let m = c .before .before .before .before .before .before .before .before .before .before .before .append-type-name .ensures (k .ty) (k .is) .0 in
-    let n = c .before .before .before .append-type-name2 .ensures (l .ty) (l .is) .0 in
-    omega (arith, m, type-name-short (k .ty), n, type-name-short (l .ty))
+array-share-prefix-body : tie.Need-array-share-prefix-body
+array-share-prefix-body c =
+    let k = c .before .before .before .before .before .before .before .before .before .before .before .before .before .before .pre .2 in
+    let e = c .before .before .before .before .before .before .before .before .before .before .before .before .before .before .pre .3 in
+    let w = wrote (typeName (k .ty)) (c .before .before .before .before .before .before .before .before .append-type-name .ensures (k .ty) (k .is)) in
+    let x = wrote (typeName (e .ty)) (c .before .before .append-type-name2 .ensures (e .ty) (e .is)) in
+    let b = told (k .ty) (e .ty) (c .before .before .before .before .before .before .before .before .before .before .before .fault-code .ensures) w (one 44 (c .before .before .before .before .before .put .ensures)) x in
+    omega (arith, b .inside)
 
-tallied-requires : tie.Need-tallied-requires
-tallied-requires c κs = search needs
+slice-aggregate-fault-line : tie.Need-slice-aggregate-fault-line
+slice-aggregate-fault-line c =
+    let k = c .before .before .before .before .before .before .before .before .before .before .before .before .before .before .before .pre .2 in
+    let e = c .before .before .before .before .before .before .before .before .before .before .before .before .before .before .before .pre .3 in
+    let w = wrote (typeName (k .ty)) (c .before .before .before .before .before .before .before .before .before .append-type-name .ensures (k .ty) (k .is)) in
+    let x = wrote (typeName (e .ty)) (c .before .before .before .append-type-name2 .ensures (e .ty) (e .is)) in
+    let b = told (k .ty) (e .ty) (c .before .before .before .before .before .before .before .before .before .before .before .before .fault-code .ensures) w (one 44 (c .before .before .before .before .before .before .put .ensures)) x in
+    omega (arith, b .size)
+
+fault-line-requires : tie.Need-fault-line-requires
+fault-line-requires c κs =
+    let k = c .before .before .before .before .before .before .before .before .before .before .before .before .before .before .before .pre .2 in
+    let e = c .before .before .before .before .before .before .before .before .before .before .before .before .before .before .before .pre .3 in
+    let w = wrote (typeName (k .ty)) (c .before .before .before .before .before .before .before .before .before .append-type-name .ensures (k .ty) (k .is)) in
+    let x = wrote (typeName (e .ty)) (c .before .before .before .append-type-name2 .ensures (e .ty) (e .is)) in
+    let b = told (k .ty) (e .ty) (c .before .before .before .before .before .before .before .before .before .before .before .before .fault-code .ensures) w (one 44 (c .before .before .before .before .before .before .put .ensures)) x in
+    (omega (arith, b .size, b .inside), c .before .before .before .before .before .before .before .before .before .before .before .before .before .before .before .pre .1)
 
 same-length : tie.Need-same-length
 same-length c = search needs
 
 returns : tie.Need-returns
 returns c u v e f =
-    let st = c .before .before .before .before .before .before .before .before .before .before .before .before .before .before .before .before .before .before .before .before .before .before in
-    adds-one (E2012 u v) (in-line u v)
-    (c .before .before .before .before .before .before .before .before .before .before .before .before .before .before .before .before .before .before .before .fault-start .ensures .appended
-    ▹ wrote (typeName u) (c .before .before .before .before .before .before .before .before .before .before .before .before .before .before .before .append-type-name .ensures u e)
-    ▹ one 44 (c .before .before .before .before .before .before .before .before .before .before .before .put .ensures)
-    ▹ wrote (typeName v) (c .before .before .before .before .before .before .before .append-type-name2 .ensures v f)
-    ▹ one 10 (c .before .before .before .put2 .ensures))
-    (c .tallied .ensures)
+    let w = wrote (typeName u) (c .before .before .before .before .before .before .before .before .before .before .before .before .append-type-name .ensures u e) in
+    let x = wrote (typeName v) (c .before .before .before .before .before .before .append-type-name2 .ensures v f) in
+    let b = told u v (c .before .before .before .before .before .before .before .before .before .before .before .before .before .before .before .fault-code .ensures) w (one 44 (c .before .before .before .before .before .before .before .before .before .put .ensures)) x in
+    c .before .before .fault-line .ensures (E2012 u v) (sym (b .is))
 
 pub fault-in-spec : {M : Type 1} → statement M
 fault-in-spec =
     tie.close
     (tie.spec
-    fault-start-requires
+    slice-aggregate-fault-code
+    fault-code-requires
+    slice-aggregate-append-type-name
     append-type-name-requires
+    slice-aggregate-put
     put-requires
+    slice-aggregate-append-type-name-2
     append-type-name-requires-2
-    put-requires-2
-    tallied-requires
+    array-share-prefix-body
+    slice-aggregate-fault-line
+    fault-line-requires
     same-length
     returns)

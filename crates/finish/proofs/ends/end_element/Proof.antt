@@ -1,6 +1,8 @@
 -- `end_element`: by the first byte. Assumes nothing.
-use Rattle.finish.proofs.States.{kept-at, element-list, element-any}
+use Rattle.finish.proofs.States.{kept-at, element-line, element-long, element-list, element-any}
 use Rattle.ty.proofs.KindLaws.{two-at}
+use lib.Seq.{length-take-le}
+use mathlib.Core.Path.{sym}
 use mathlib.Core.Logic.{inl}
 use native.Mathlib.Omega.{arith}
 use borrow.Author.Needs.{needs}
@@ -10,23 +12,28 @@ use Rattle.finish.proofs.ends.end_element.Tie as tie
 slice-read-if1 : tie.Need-slice-read-if1
 slice-read-if1 c = search needs
 
-sub-n : tie.Need-sub-n
-sub-n c =
-    let st = c .before .before .before .before in
-    omega (arith, two-at (st .args .work .now) 0 (st .args .st .len) (st .pre .ty) (kept-at (st .pre .at)))
+slice-reshare-prefix-element : tie.Need-slice-reshare-prefix-element
+slice-reshare-prefix-element c = omega (arith, kept-at (c .before .before .before .pre .at) .inside)
+
+slice-aggregate-element : tie.Need-slice-aggregate-element
+slice-aggregate-element c = sym (length-take-le _ _ (kept-at (c .before .before .before .before .pre .at) .inside))
+
+element-requires : tie.Need-element-requires
+element-requires c κs = element-line (c .before .before .before .before .pre .at) (c .before .if1 .taken)
 
 copy-in-requires : tie.Need-copy-in-requires
 copy-in-requires c κs =
-    let st = c .before .before .before .before .before in
+    let st = c .before .before .before .before .before .before in
     let h = kept-at (st .pre .at) in
     let two = two-at (st .args .work .now) 0 (st .args .st .len) (st .pre .ty) h in
+    let long = element-long (st .pre .at) (c .before .before .before .if1 .taken) (c .before .element .ensures) in
     (omega (arith, h .inside), omega (arith, h .inside), inl (omega arith))
 
 same-length : tie.Need-same-length
 same-length c = search needs
 
 returns : tie.Need-returns
-returns c = (search needs, λ t k. element-list k (c .before .before .before .before .before .if1 .taken) (c .before .before .copy-in .ensures) .at)
+returns c = (search needs, λ t k. element-list k (c .before .before .before .before .before .before .if1 .taken) (c .before .before .before .before .element .ensures) (c .before .before .copy-in .ensures) .at)
 
 put-letter-requires : tie.Need-put-letter-requires
 put-letter-requires c κs = search needs
@@ -42,7 +49,9 @@ end-element-spec =
     tie.close
     (tie.spec
     slice-read-if1
-    sub-n
+    slice-reshare-prefix-element
+    slice-aggregate-element
+    element-requires
     copy-in-requires
     same-length
     returns

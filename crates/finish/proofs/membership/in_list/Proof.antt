@@ -1,5 +1,5 @@
 -- `in_list`: by what `unify` says of the operand and the element. Assumes nothing.
-use Rattle.finish.proofs.InLaws.{list-inside, list-ready, list-kinds, list-done, list-apart, list-large}
+use Rattle.finish.proofs.InLaws.{list-line, list-first, list-ready, list-kinds, list-done, list-apart, list-large}
 use borrow.Author.Needs.{needs}
 use Rattle.finish.proofs.membership.in_list.Statement.{statement}
 use Rattle.finish.proofs.membership.in_list.Tie as tie
@@ -10,17 +10,26 @@ add-e c = search needs
 slice-read-a : tie.Need-slice-read-a
 slice-read-a c = search needs
 
-add-b : tie.Need-add-b
-add-b c = search needs
+sub-element : tie.Need-sub-element
+sub-element c = search needs
 
-slice-read-b : tie.Need-slice-read-b
-slice-read-b c = list-inside (c .before .before .before .before .before .pre .0) (c .before .before .before .before .before .pre .2)
+part-element-start : tie.Need-part-element-start
+part-element-start c = search needs
+
+part-element-end : tie.Need-part-element-end
+part-element-end c = search needs
+
+element-requires : tie.Need-element-requires
+element-requires c κs = list-line (c .before .before .before .before .before .before .pre .0) (c .before .before .before .before .before .before .pre .2)
+
+shared-slice-read-b : tie.Need-shared-slice-read-b
+shared-slice-read-b c = list-first (c .before .before .before .before .before .before .before .before .pre .0) (c .before .before .before .before .before .before .before .before .pre .2) (c .before .element .ensures)
 
 add-unify : tie.Need-add-unify
 add-unify c = search needs
 
 unify-requires : tie.Need-unify-requires
-unify-requires c κs = list-ready (c .before .before .before .before .before .before .pre .0) (c .before .before .before .before .before .before .pre .2)
+unify-requires c κs = list-ready (c .before .before .before .before .before .before .before .before .before .pre .0) (c .before .before .before .before .before .before .before .before .before .pre .2)
 
 enum-told : tie.Need-enum-told
 enum-told c = search needs
@@ -32,7 +41,7 @@ enum-told-2 : tie.Need-enum-told-2
 enum-told-2 c = search needs
 
 mismatch-in-requires : tie.Need-mismatch-in-requires
-mismatch-in-requires c κs = (list-kinds (c .before .before .before .before .before .before .before .before .before .before .before .before .pre .0) (c .before .before .before .before .before .before .before .before .before .before .before .before .pre .2), c .before .before .before .before .before .before .before .before .before .before .before .before .pre .1)
+mismatch-in-requires c κs = (list-kinds (c .before .before .before .before .before .before .before .before .before .before .before .before .before .before .before .pre .0) (c .before .before .before .before .before .before .before .before .before .before .before .before .before .before .before .pre .2) (c .before .before .before .before .before .before .before .before .element .ensures), c .before .before .before .before .before .before .before .before .before .before .before .before .before .before .before .pre .1)
 
 is-bool-requires-2 : tie.Need-is-bool-requires-2
 is-bool-requires-2 c κs = search needs
@@ -44,7 +53,7 @@ same-length : tie.Need-same-length
 same-length c = search needs
 
 returns : tie.Need-returns
-returns c = λ a b h. list-done (c .before .before .before .before .before .before .before .before .unify .ensures) h (c .before .before .before .before .before .before .before .before .before .before .before .before .before .before .before .pre .2) (c .before .before .before .before .enum-told .given .1) (c .before .before .is-bool .ensures)
+returns c = λ a b h. list-done (c .before .before .before .before .before .before .before .before .unify .ensures) h (c .before .before .before .before .before .before .before .before .before .before .before .before .before .before .before .before .before .before .pre .2) (c .before .before .before .before .enum-told .given .1) (c .before .before .is-bool .ensures)
 
 same-length-2 : tie.Need-same-length-2
 same-length-2 c = search needs
@@ -53,13 +62,13 @@ same-length-3 : tie.Need-same-length-3
 same-length-3 c = search needs
 
 returns-2 : tie.Need-returns-2
-returns-2 c = λ a b h. list-apart (c .before .before .before .before .before .before .before .before .before .before .before .before .unify .ensures) h (c .before .before .before .before .before .before .before .before .before .before .before .before .before .before .before .before .before .before .before .pre .2) (c .before .before .before .before .before .before .before .before .enum-told2 .given .1) (c .before .before .before .before .before .before .mismatch-in .ensures) (c .before .before .is-bool2 .ensures)
+returns-2 c = λ a b h. list-apart (c .before .before .before .before .before .before .before .before .before .before .before .before .unify .ensures) h (c .before .before .before .before .before .before .before .before .before .before .before .before .before .before .before .before .before .before .before .before .before .before .pre .2) (c .before .before .before .before .before .before .before .before .before .before .before .before .before .before .before .element .ensures) (c .before .before .before .before .before .before .before .before .enum-told2 .given .1) (c .before .before .before .before .before .before .mismatch-in .ensures) (c .before .before .is-bool2 .ensures)
 
 same-length-4 : tie.Need-same-length-4
 same-length-4 c = search needs
 
 returns-3 : tie.Need-returns-3
-returns-3 c = λ a b h. list-large (c .before .before .before .before .unify .ensures) h (c .before .before .before .before .before .before .before .before .before .before .before .pre .2) (c .enum-told3 .given .1)
+returns-3 c = λ a b h. list-large (c .before .before .before .before .unify .ensures) h (c .before .before .before .before .before .before .before .before .before .before .before .before .before .before .pre .2) (c .enum-told3 .given .1)
 
 pub in-list-spec : {M : Type 1} → statement M
 in-list-spec =
@@ -67,8 +76,11 @@ in-list-spec =
     (tie.spec
     add-e
     slice-read-a
-    add-b
-    slice-read-b
+    sub-element
+    part-element-start
+    part-element-end
+    element-requires
+    shared-slice-read-b
     add-unify
     unify-requires
     enum-told

@@ -1,4 +1,4 @@
--- The cycle {check_tree, infer_expr}. Measures 2 * depth + 1 and 2 * depth. Each answer is a law of `WalkCycle` at the paths of its place. Assumes nothing.
+-- The cycle {check_pattern, check_tree, infer_expr}. Measures 3 * depth + 1, 3 * depth + 2 and 3 * depth. Each answer is a law of `WalkCycle` or `WalkEnter` at the paths of its place. Assumes nothing.
 use lib.Seq.{lt-length-set}
 use borrow.Author.Needs.{needs}
 use lib.ListN.{length}
@@ -8,17 +8,20 @@ use mathlib.Core.Path.{sym, _∙_}
 use native.Mathlib.Omega.{arith}
 use Rattle.infer.specs.Walks.{ExprWalked}
 use Rattle.infer.proofs.WalkLeaf.{joined}
-use Rattle.infer.proofs.WalkEnter.{enters, via-ask, via-walked}
-use Rattle.infer.proofs.WalkCycle.{InferInv, infer-kids, infer-past, infer-wide, infer-pos, infer-start, infer-inside, infer-len, infer-role, infer-child, infer-stop, infer-halt, infer-step, infer-after, infer-large, infer-on, infer-finish, infer-end, TreeInv, tree-start, tree-inside, tree-line, tree-todo, tree-room, tree-ask, tree-long, tree-out, tree-stop, tree-down, tree-on, tree-kids, tree-past, tree-pass, tree-end, infer-fine, tree-fine}
+use Rattle.infer.proofs.WalkEnter.{enters, via-ask, via-walked, neither-ask, neither-walked}
+use Rattle.infer.proofs.WalkCycle.{InferInv, infer-kids, infer-past, infer-wide, infer-pos, infer-start, infer-inside, infer-len, infer-role, infer-child, infer-stop, infer-halt, infer-step, infer-after, infer-large, infer-on, infer-finish, infer-end, PatternInv, pattern-start, pattern-inside, pattern-line, pattern-todo, pattern-room, pattern-ask, pattern-long, pattern-out, pattern-stop, pattern-down, pattern-on, pattern-kids, pattern-past, pattern-pass, pattern-end, infer-fine, pattern-fine}
 use Prim.Native.Nat.{ℕ, _<_}
 use borrow.Fn.Kinds.{In}
 use borrow.Fn.PlainCycle.{Measures, is, falls, and}
+use Rattle.infer.proofs.walk.check_pattern.Reads as check-pattern
+use Rattle.infer.proofs.walk.check_pattern.Kinds as check-pattern-kinds
+use Rattle.infer.proofs.walk.+check_pattern+check_tree+infer_expr.Lts-check_pattern as check-pattern-lts
 use Rattle.infer.proofs.walk.check_tree.Reads as check-tree
 use Rattle.infer.proofs.walk.check_tree.Kinds as check-tree-kinds
-use Rattle.infer.proofs.walk.+check_tree+infer_expr.Lts-check_tree as check-tree-lts
+use Rattle.infer.proofs.walk.+check_pattern+check_tree+infer_expr.Lts-check_tree as check-tree-lts
 use Rattle.infer.proofs.walk.infer_expr.Reads as infer-expr
 use Rattle.infer.proofs.walk.infer_expr.Kinds as infer-expr-kinds
-use Rattle.infer.proofs.walk.+check_tree+infer_expr.Lts-infer_expr as infer-expr-lts
+use Rattle.infer.proofs.walk.+check_pattern+check_tree+infer_expr.Lts-infer_expr as infer-expr-lts
 use Rattle.hir.proofs.kids_of.Reads as kids-of-reads
 use Rattle.infer.proofs.rule.role_of.Reads as role-of-reads
 use Rattle.infer.proofs.rule.rule_of.Reads as rule-of-reads
@@ -34,14 +37,29 @@ use Rattle.infer.proofs.walk.told.Reads as told-reads
 use Rattle.line.proofs.read_line.Reads as read-line-reads
 use Rattle.line.proofs.class_of.Reads as class-of-reads
 use Rattle.line.proofs.is_leaf.Reads as is-leaf-reads
-use Rattle.infer.proofs.walk.+check_tree+infer_expr.{statement}
-use Rattle.infer.proofs.walk.+check_tree+infer_expr.Tie.{close}
+use Rattle.infer.proofs.walk.+check_pattern+check_tree+infer_expr.{statement}
+use Rattle.infer.proofs.walk.+check_pattern+check_tree+infer_expr.Tie.{close}
+
+abbrev μ-check-pattern : Measures 3 check-pattern-kinds.ps ℕ
+μ-check-pattern κs a = 3 * a .1 .1 .1 .0 + 1
 
 abbrev μ-check-tree : Measures 3 check-tree-kinds.ps ℕ
-μ-check-tree κs a = 2 * a .1 .1 .1 .1 .0 + 1
+μ-check-tree κs a = 3 * a .1 .1 .1 .1 .0 + 2
 
 abbrev μ-infer-expr : Measures 3 infer-expr-kinds.ps ℕ
-μ-infer-expr κs a = 2 * a .1 .1 .1 .1 .0
+μ-infer-expr κs a = 3 * a .1 .1 .1 .1 .0
+
+abbrev check-pattern-at : ℕ → In 3 check-pattern-kinds.ps
+check-pattern-at t =
+    and 3 check-pattern-kinds.ps (is 3 check-pattern-kinds.ps μ-check-pattern t) check-pattern.Pre
+
+abbrev check-pattern-below : ℕ → In 3 check-pattern-kinds.ps
+check-pattern-below t =
+    and
+    3
+    check-pattern-kinds.ps
+    (falls 3 check-pattern-kinds.ps _<_ μ-check-pattern t)
+    check-pattern.Pre
 
 abbrev check-tree-at : ℕ → In 3 check-tree-kinds.ps
 check-tree-at t =
@@ -59,130 +77,145 @@ abbrev infer-expr-below : ℕ → In 3 infer-expr-kinds.ps
 infer-expr-below t =
     and 3 infer-expr-kinds.ps (falls 3 infer-expr-kinds.ps _<_ μ-infer-expr t) infer-expr.Pre
 
+abbrev check-pattern-claims : ℕ → check-pattern-lts.Claims
+check-pattern-claims t = (read-line-reads.Asked, read-line-reads.Learnt, class-of-reads.Asked, class-of-reads.Learnt, is-leaf-reads.Asked, is-leaf-reads.Learnt, infer-leaf-reads.Asked, infer-leaf-reads.Learnt, infer-expr-below t, infer-expr.Post, kids-of-reads.Asked, kids-of-reads.Learnt, past-reads.Asked, past-reads.Learnt)
+
+abbrev check-pattern-Inv-loop : check-pattern-lts.InvT-loop
+check-pattern-Inv-loop b sheet depth work₀ out₀ c₀ y₀ todo₀ work out c y todo = PatternInv sheet b depth work₀ out₀ c₀ y₀ work out c y todo
+
+abbrev check-pattern-μ-loop : check-pattern-lts.MeasureT-loop
+check-pattern-μ-loop b sheet depth work₀ out₀ c₀ y₀ todo₀ work out c y todo = length sheet + 2 - c .line .0
+
 abbrev check-tree-claims : ℕ → check-tree-lts.Claims
-check-tree-claims t = (entered-reads.Asked, entered-reads.Learnt, class-of-reads.Asked, class-of-reads.Learnt, is-leaf-reads.Asked, is-leaf-reads.Learnt, infer-leaf-reads.Asked, infer-leaf-reads.Learnt, infer-expr-below t, infer-expr.Post, read-line-reads.Asked, read-line-reads.Learnt, kids-of-reads.Asked, kids-of-reads.Learnt, past-reads.Asked, past-reads.Learnt)
-
-abbrev check-tree-Inv-loop : check-tree-lts.InvT-loop
-check-tree-Inv-loop b sheet depth work₀ out₀ c₀ y₀ todo₀ work out c y todo = TreeInv sheet b depth work₀ out₀ c₀ y₀ work out c y todo
-
-abbrev check-tree-μ-loop : check-tree-lts.MeasureT-loop
-check-tree-μ-loop b sheet depth work₀ out₀ c₀ y₀ todo₀ work out c y todo = length sheet + 2 - c .line .0
+check-tree-claims t = (entered-reads.Asked, entered-reads.Learnt, class-of-reads.Asked, class-of-reads.Learnt, is-leaf-reads.Asked, is-leaf-reads.Learnt, infer-leaf-reads.Asked, infer-leaf-reads.Learnt, infer-expr-below t, infer-expr.Post, check-pattern-below t, check-pattern.Post)
 
 abbrev infer-expr-claims : ℕ → infer-expr-lts.Claims
 infer-expr-claims t = (kids-of-reads.Asked, kids-of-reads.Learnt, rule-of-reads.Asked, rule-of-reads.Learnt, past-reads.Asked, past-reads.Learnt, start-reads.Asked, start-reads.Learnt, read-line-reads.Asked, read-line-reads.Learnt, check-tree-below t, check-tree.Post, role-of-reads.Asked, role-of-reads.Learnt, spelt-reads.Asked, spelt-reads.Learnt, held-reads.Asked, held-reads.Learnt, step-reads.Asked, step-reads.Learnt, finish-reads.Asked, finish-reads.Learnt, told-reads.Asked, told-reads.Learnt)
 
-check-tree-entered-requires : (t : ℕ) → check-tree-lts.Need-entered-requires (check-tree-claims t) (check-tree-at t) check-tree.Post check-tree-Inv-loop check-tree-μ-loop
-check-tree-entered-requires t c κs = enters (c .before .before .before .pre .1 .at)
+check-pattern-loop-holds : (t : ℕ) → check-pattern-lts.Need-loop-holds (check-pattern-claims t) (check-pattern-at t) check-pattern.Post check-pattern-Inv-loop check-pattern-μ-loop
+check-pattern-loop-holds t c = pattern-start
 
-check-tree-class-of-requires : (t : ℕ) → check-tree-lts.Need-class-of-requires (check-tree-claims t) (check-tree-at t) check-tree.Post check-tree-Inv-loop check-tree-μ-loop
-check-tree-class-of-requires t c κs = search needs
+check-pattern-read-line-requires : (t : ℕ) → check-pattern-lts.Need-read-line-requires (check-pattern-claims t) (check-pattern-at t) check-pattern.Post check-pattern-Inv-loop check-pattern-μ-loop
+check-pattern-read-line-requires t c κs = (pattern-inside (c .before .before .before .before .before .pre .1) (c .before .loop .inv), λ e. pattern-fine (c .before .before .before .before .before .pre .1) (c .before .loop .inv) (c .loop-test .taken))
 
-check-tree-is-leaf-requires : (t : ℕ) → check-tree-lts.Need-is-leaf-requires (check-tree-claims t) (check-tree-at t) check-tree.Post check-tree-Inv-loop check-tree-μ-loop
-check-tree-is-leaf-requires t c κs = search needs
+check-pattern-class-of-requires : (t : ℕ) → check-pattern-lts.Need-class-of-requires (check-pattern-claims t) (check-pattern-at t) check-pattern.Post check-pattern-Inv-loop check-pattern-μ-loop
+check-pattern-class-of-requires t c κs = search needs
 
-check-tree-infer-leaf-requires : (t : ℕ) → check-tree-lts.Need-infer-leaf-requires (check-tree-claims t) (check-tree-at t) check-tree.Post check-tree-Inv-loop check-tree-μ-loop
-check-tree-infer-leaf-requires t c κs = record { depth = _; ask = via-ask (c .before .before .before .before .before .before .before .before .before .before .before .before .pre .1) (c .before .before .before .before .before .before .before .before .entered .ensures) (sym (c .before .before .before .before .before .before .class-of .ensures) ∙ c .before .before .before .before .before .if1 .taken); leaf = c .before .before .before .is-leaf .ensures (c .before .before .if2 .taken) }
+check-pattern-is-leaf-requires : (t : ℕ) → check-pattern-lts.Need-is-leaf-requires (check-pattern-claims t) (check-pattern-at t) check-pattern.Post check-pattern-Inv-loop check-pattern-μ-loop
+check-pattern-is-leaf-requires t c κs = search needs
 
-check-tree-same-length : (t : ℕ) → check-tree-lts.Need-same-length (check-tree-claims t) (check-tree-at t) check-tree.Post check-tree-Inv-loop check-tree-μ-loop
-check-tree-same-length t c = search needs
+check-pattern-infer-leaf-requires : (t : ℕ) → check-pattern-lts.Need-infer-leaf-requires (check-pattern-claims t) (check-pattern-at t) check-pattern.Post check-pattern-Inv-loop check-pattern-μ-loop
+check-pattern-infer-leaf-requires t c κs = record { depth = _; ask = pattern-ask (c .before .before .before .before .before .before .before .before .before .before .before .before .pre .1) (c .before .before .before .before .before .before .before .before .loop .inv) (c .before .before .before .before .before .before .before .loop-test .taken) _ (c .before .before .before .before .before .before .read-line .ensures) (sym (c .before .before .before .before .before .class-of .ensures) ∙ c .before .before .before .before .if1 .taken); leaf = c .before .before .before .is-leaf .ensures (c .before .before .if2 .taken) }
 
-check-tree-same-length-2 : (t : ℕ) → check-tree-lts.Need-same-length-2 (check-tree-claims t) (check-tree-at t) check-tree.Post check-tree-Inv-loop check-tree-μ-loop
-check-tree-same-length-2 t c = search needs
-
-check-tree-returns : (t : ℕ) → check-tree-lts.Need-returns (check-tree-claims t) (check-tree-at t) check-tree.Post check-tree-Inv-loop check-tree-μ-loop
-check-tree-returns t c = via-walked (c .before .before .before .before .before .before .before .before .before .before .before .before .before .entered .ensures) (sym (c .before .before .before .before .before .before .before .before .before .before .before .class-of .ensures) ∙ c .before .before .before .before .before .before .before .before .before .before .if1 .taken) (c .before .before .before .before .infer-leaf .ensures _)
-
-check-tree-infer-expr-requires : (t : ℕ) → check-tree-lts.Need-infer-expr-requires (check-tree-claims t) (check-tree-at t) check-tree.Post check-tree-Inv-loop check-tree-μ-loop
-check-tree-infer-expr-requires t c κs = (omega (arith, c .before .before .before .before .before .before .before .before .before .before .before .before .pre .0), via-ask (c .before .before .before .before .before .before .before .before .before .before .before .before .pre .1) (c .before .before .before .before .before .before .before .before .entered .ensures) (sym (c .before .before .before .before .before .before .class-of .ensures) ∙ c .before .before .before .before .before .if1 .taken))
-
-check-tree-same-length-3 : (t : ℕ) → check-tree-lts.Need-same-length-3 (check-tree-claims t) (check-tree-at t) check-tree.Post check-tree-Inv-loop check-tree-μ-loop
-check-tree-same-length-3 t c = search needs
-
-check-tree-same-length-4 : (t : ℕ) → check-tree-lts.Need-same-length-4 (check-tree-claims t) (check-tree-at t) check-tree.Post check-tree-Inv-loop check-tree-μ-loop
-check-tree-same-length-4 t c = search needs
-
-check-tree-returns-2 : (t : ℕ) → check-tree-lts.Need-returns-2 (check-tree-claims t) (check-tree-at t) check-tree.Post check-tree-Inv-loop check-tree-μ-loop
-check-tree-returns-2 t c = via-walked (c .before .before .before .before .before .before .before .before .before .before .before .before .before .entered .ensures) (sym (c .before .before .before .before .before .before .before .before .before .before .before .class-of .ensures) ∙ c .before .before .before .before .before .before .before .before .before .before .if1 .taken) (c .before .before .before .before .infer-expr .ensures)
-
-check-tree-loop-holds : (t : ℕ) → check-tree-lts.Need-loop-holds (check-tree-claims t) (check-tree-at t) check-tree.Post check-tree-Inv-loop check-tree-μ-loop
-check-tree-loop-holds t c = tree-start
-
-check-tree-read-line-requires : (t : ℕ) → check-tree-lts.Need-read-line-requires (check-tree-claims t) (check-tree-at t) check-tree.Post check-tree-Inv-loop check-tree-μ-loop
-check-tree-read-line-requires t c κs = (tree-inside (c .before .before .before .before .before .before .before .before .before .pre .1) (c .before .loop .inv), λ e. tree-fine (c .before .before .before .before .before .before .before .before .before .pre .1) (c .before .loop .inv) (c .loop-test .taken))
-
-check-tree-class-of-requires-2 : (t : ℕ) → check-tree-lts.Need-class-of-requires-2 (check-tree-claims t) (check-tree-at t) check-tree.Post check-tree-Inv-loop check-tree-μ-loop
-check-tree-class-of-requires-2 t c κs = search needs
-
-check-tree-is-leaf-requires-2 : (t : ℕ) → check-tree-lts.Need-is-leaf-requires-2 (check-tree-claims t) (check-tree-at t) check-tree.Post check-tree-Inv-loop check-tree-μ-loop
-check-tree-is-leaf-requires-2 t c κs = search needs
-
-check-tree-infer-leaf-requires-2 : (t : ℕ) → check-tree-lts.Need-infer-leaf-requires-2 (check-tree-claims t) (check-tree-at t) check-tree.Post check-tree-Inv-loop check-tree-μ-loop
-check-tree-infer-leaf-requires-2 t c κs = record { depth = _; ask = tree-ask (c .before .before .before .before .before .before .before .before .before .before .before .before .before .before .before .before .pre .1) (c .before .before .before .before .before .before .before .before .loop .inv) (c .before .before .before .before .before .before .before .loop-test .taken) _ (c .before .before .before .before .before .before .read-line .ensures) (sym (c .before .before .before .before .before .class-of2 .ensures) ∙ c .before .before .before .before .if3 .taken); leaf = c .before .before .before .is-leaf2 .ensures (c .before .before .if4 .taken) }
-
-check-tree-infer-expr-requires-2 : (t : ℕ) → check-tree-lts.Need-infer-expr-requires-2 (check-tree-claims t) (check-tree-at t) check-tree.Post check-tree-Inv-loop check-tree-μ-loop
-check-tree-infer-expr-requires-2 t c κs = (omega (arith, c .before .before .before .before .before .before .before .before .before .before .before .before .before .before .before .before .pre .0), tree-ask (c .before .before .before .before .before .before .before .before .before .before .before .before .before .before .before .before .pre .1) (c .before .before .before .before .before .before .before .before .loop .inv) (c .before .before .before .before .before .before .before .loop-test .taken) _ (c .before .before .before .before .before .before .read-line .ensures) (sym (c .before .before .before .before .before .class-of2 .ensures) ∙ c .before .before .before .before .if3 .taken))
+check-pattern-infer-expr-requires : (t : ℕ) → check-pattern-lts.Need-infer-expr-requires (check-pattern-claims t) (check-pattern-at t) check-pattern.Post check-pattern-Inv-loop check-pattern-μ-loop
+check-pattern-infer-expr-requires t c κs = (omega (arith, c .before .before .before .before .before .before .before .before .before .before .before .before .pre .0), pattern-ask (c .before .before .before .before .before .before .before .before .before .before .before .before .pre .1) (c .before .before .before .before .before .before .before .before .loop .inv) (c .before .before .before .before .before .before .before .loop-test .taken) _ (c .before .before .before .before .before .before .read-line .ensures) (sym (c .before .before .before .before .before .class-of .ensures) ∙ c .before .before .before .before .if1 .taken))
 
 -- where the ways of a leaf and of any other expression join
-check-tree-typed : (t : ℕ) (c : check-tree-lts.Joined4 (check-tree-claims t) (check-tree-at t) check-tree.Post check-tree-Inv-loop check-tree-μ-loop)
-    → ExprWalked (c .before .before .before .before .before .before .before .before .before .before .before .before .before .before .args .sheet .now) (c .before .before .before .before .before .before .before .before .before .before .before .before .before .before .args .b) (c .before .before .before .before .read-line .result) (c .before .before .before .before .before .before .loop .c) (c .before .before .before .before .before .before .before .before .before .before .before .before .before .before .args .depth) (c .before .before .before .before .before .before .loop .work) (c .if4 .work) (c .before .before .before .before .before .before .loop .out) (c .if4 .out) (c .before .before .before .before .before .before .loop .y) (c .if4 .typed)
-check-tree-typed t c = ⊎-elim (λ w. joined (w .8) (w .9) (w .10) (w .3 .ensures _)) (λ w. joined (w .8) (w .9) (w .10) (w .3 .ensures)) (c .if4 .came)
+check-pattern-typed : (t : ℕ) (c : check-pattern-lts.Joined2 (check-pattern-claims t) (check-pattern-at t) check-pattern.Post check-pattern-Inv-loop check-pattern-μ-loop)
+    → ExprWalked (c .before .before .before .before .before .before .before .before .before .before .args .sheet .now) (c .before .before .before .before .before .before .before .before .before .before .args .b) (c .before .before .before .before .read-line .result) (c .before .before .before .before .before .before .loop .c) (c .before .before .before .before .before .before .before .before .before .before .args .depth) (c .before .before .before .before .before .before .loop .work) (c .if2 .work) (c .before .before .before .before .before .before .loop .out) (c .if2 .out) (c .before .before .before .before .before .before .loop .y) (c .if2 .typed)
+check-pattern-typed t c = ⊎-elim (λ w. joined (w .8) (w .9) (w .10) (w .3 .ensures _)) (λ w. joined (w .8) (w .9) (w .10) (w .3 .ensures)) (c .if2 .came)
 
-check-tree-enum-known-typed : (t : ℕ) → check-tree-lts.Need-enum-known-typed (check-tree-claims t) (check-tree-at t) check-tree.Post check-tree-Inv-loop check-tree-μ-loop
-check-tree-enum-known-typed t c = search needs
+check-pattern-enum-known-typed : (t : ℕ) → check-pattern-lts.Need-enum-known-typed (check-pattern-claims t) (check-pattern-at t) check-pattern.Post check-pattern-Inv-loop check-pattern-μ-loop
+check-pattern-enum-known-typed t c = search needs
 
-check-tree-sub-todo : (t : ℕ) → check-tree-lts.Need-sub-todo (check-tree-claims t) (check-tree-at t) check-tree.Post check-tree-Inv-loop check-tree-μ-loop
-check-tree-sub-todo t c = search needs
+check-pattern-sub-todo : (t : ℕ) → check-pattern-lts.Need-sub-todo (check-pattern-claims t) (check-pattern-at t) check-pattern.Post check-pattern-Inv-loop check-pattern-μ-loop
+check-pattern-sub-todo t c = search needs
 
-check-tree-loop-less : (t : ℕ) → check-tree-lts.Need-loop-less (check-tree-claims t) (check-tree-at t) check-tree.Post check-tree-Inv-loop check-tree-μ-loop
-check-tree-loop-less t c = omega (arith, tree-line (c .before .before .before .before .before .before .before .before .before .before .before .before .before .before .before .before .before .pre .1) (c .before .before .before .before .before .before .before .before .before .loop .inv), tree-down (c .before .before .before .before .before .before .before .before .before .before .before .before .before .before .before .before .before .pre .1) (c .before .before .before .before .before .before .before .before .before .loop .inv) (c .before .before .before .before .before .before .before .before .loop-test .taken) _ (c .before .before .before .before .before .before .before .read-line .ensures) (sym (c .before .before .before .before .before .before .class-of2 .ensures) ∙ c .before .before .before .before .before .if3 .taken) (check-tree-typed t (c .before .before .before)) (c .before .typed .given .1))
+check-pattern-loop-less : (t : ℕ) → check-pattern-lts.Need-loop-less (check-pattern-claims t) (check-pattern-at t) check-pattern.Post check-pattern-Inv-loop check-pattern-μ-loop
+check-pattern-loop-less t c = omega (arith, pattern-line (c .before .before .before .before .before .before .before .before .before .before .before .before .before .pre .1) (c .before .before .before .before .before .before .before .before .before .loop .inv), pattern-down (c .before .before .before .before .before .before .before .before .before .before .before .before .before .pre .1) (c .before .before .before .before .before .before .before .before .before .loop .inv) (c .before .before .before .before .before .before .before .before .loop-test .taken) _ (c .before .before .before .before .before .before .before .read-line .ensures) (sym (c .before .before .before .before .before .before .class-of .ensures) ∙ c .before .before .before .before .before .if1 .taken) (check-pattern-typed t (c .before .before .before)) (c .before .typed .given .1))
 
-check-tree-loop-again : (t : ℕ) → check-tree-lts.Need-loop-again (check-tree-claims t) (check-tree-at t) check-tree.Post check-tree-Inv-loop check-tree-μ-loop
-check-tree-loop-again t c = tree-on (c .before .before .before .before .before .before .before .before .before .before .before .before .before .before .before .before .before .pre .1) (c .before .before .before .before .before .before .before .before .before .loop .inv) (c .before .before .before .before .before .before .before .before .loop-test .taken) _ (c .before .before .before .before .before .before .before .read-line .ensures) (sym (c .before .before .before .before .before .before .class-of2 .ensures) ∙ c .before .before .before .before .before .if3 .taken) (check-tree-typed t (c .before .before .before)) (c .before .typed .given .1)
+check-pattern-loop-again : (t : ℕ) → check-pattern-lts.Need-loop-again (check-pattern-claims t) (check-pattern-at t) check-pattern.Post check-pattern-Inv-loop check-pattern-μ-loop
+check-pattern-loop-again t c = pattern-on (c .before .before .before .before .before .before .before .before .before .before .before .before .before .pre .1) (c .before .before .before .before .before .before .before .before .before .loop .inv) (c .before .before .before .before .before .before .before .before .loop-test .taken) _ (c .before .before .before .before .before .before .before .read-line .ensures) (sym (c .before .before .before .before .before .before .class-of .ensures) ∙ c .before .before .before .before .before .if1 .taken) (check-pattern-typed t (c .before .before .before)) (c .before .typed .given .1)
 
-check-tree-enum-known-typed-2 : (t : ℕ) → check-tree-lts.Need-enum-known-typed-2 (check-tree-claims t) (check-tree-at t) check-tree.Post check-tree-Inv-loop check-tree-μ-loop
-check-tree-enum-known-typed-2 t c = search needs
+check-pattern-enum-known-typed-2 : (t : ℕ) → check-pattern-lts.Need-enum-known-typed-2 (check-pattern-claims t) (check-pattern-at t) check-pattern.Post check-pattern-Inv-loop check-pattern-μ-loop
+check-pattern-enum-known-typed-2 t c = search needs
 
-check-tree-same-length-5 : (t : ℕ) → check-tree-lts.Need-same-length-5 (check-tree-claims t) (check-tree-at t) check-tree.Post check-tree-Inv-loop check-tree-μ-loop
-check-tree-same-length-5 t c = tree-long (c .before .before .before .before .before .before .before .before .before .before .before .before .before .before .before .before .before .pre .1) (c .before .before .before .before .before .before .before .before .before .loop .inv) (c .before .before .before .before .before .before .before .before .loop-test .taken) _ (c .before .before .before .before .before .before .before .read-line .ensures) (sym (c .before .before .before .before .before .before .class-of2 .ensures) ∙ c .before .before .before .before .before .if3 .taken) (check-tree-typed t (c .before .before .before))
+check-pattern-same-length : (t : ℕ) → check-pattern-lts.Need-same-length (check-pattern-claims t) (check-pattern-at t) check-pattern.Post check-pattern-Inv-loop check-pattern-μ-loop
+check-pattern-same-length t c = pattern-long (c .before .before .before .before .before .before .before .before .before .before .before .before .before .pre .1) (c .before .before .before .before .before .before .before .before .before .loop .inv) (c .before .before .before .before .before .before .before .before .loop-test .taken) _ (c .before .before .before .before .before .before .before .read-line .ensures) (sym (c .before .before .before .before .before .before .class-of .ensures) ∙ c .before .before .before .before .before .if1 .taken) (check-pattern-typed t (c .before .before .before))
 
-check-tree-same-length-6 : (t : ℕ) → check-tree-lts.Need-same-length-6 (check-tree-claims t) (check-tree-at t) check-tree.Post check-tree-Inv-loop check-tree-μ-loop
-check-tree-same-length-6 t c = tree-out (c .before .before .before .before .before .before .before .before .before .before .before .before .before .before .before .before .before .pre .1) (c .before .before .before .before .before .before .before .before .before .loop .inv) (c .before .before .before .before .before .before .before .before .loop-test .taken) _ (c .before .before .before .before .before .before .before .read-line .ensures) (sym (c .before .before .before .before .before .before .class-of2 .ensures) ∙ c .before .before .before .before .before .if3 .taken) (check-tree-typed t (c .before .before .before))
+check-pattern-same-length-2 : (t : ℕ) → check-pattern-lts.Need-same-length-2 (check-pattern-claims t) (check-pattern-at t) check-pattern.Post check-pattern-Inv-loop check-pattern-μ-loop
+check-pattern-same-length-2 t c = pattern-out (c .before .before .before .before .before .before .before .before .before .before .before .before .before .pre .1) (c .before .before .before .before .before .before .before .before .before .loop .inv) (c .before .before .before .before .before .before .before .before .loop-test .taken) _ (c .before .before .before .before .before .before .before .read-line .ensures) (sym (c .before .before .before .before .before .before .class-of .ensures) ∙ c .before .before .before .before .before .if1 .taken) (check-pattern-typed t (c .before .before .before))
 
-check-tree-returns-3 : (t : ℕ) → check-tree-lts.Need-returns-3 (check-tree-claims t) (check-tree-at t) check-tree.Post check-tree-Inv-loop check-tree-μ-loop
-check-tree-returns-3 t c = tree-stop (c .before .before .before .before .before .before .before .before .before .before .before .before .before .before .before .before .before .pre .1) (c .before .before .before .before .before .before .before .before .before .loop .inv) (c .before .before .before .before .before .before .before .before .loop-test .taken) _ (c .before .before .before .before .before .before .before .read-line .ensures) (sym (c .before .before .before .before .before .before .class-of2 .ensures) ∙ c .before .before .before .before .before .if3 .taken) (check-tree-typed t (c .before .before .before)) _ (c .before .typed2 .given .1)
+check-pattern-returns : (t : ℕ) → check-pattern-lts.Need-returns (check-pattern-claims t) (check-pattern-at t) check-pattern.Post check-pattern-Inv-loop check-pattern-μ-loop
+check-pattern-returns t c = pattern-stop (c .before .before .before .before .before .before .before .before .before .before .before .before .before .pre .1) (c .before .before .before .before .before .before .before .before .before .loop .inv) (c .before .before .before .before .before .before .before .before .loop-test .taken) _ (c .before .before .before .before .before .before .before .read-line .ensures) (sym (c .before .before .before .before .before .before .class-of .ensures) ∙ c .before .before .before .before .before .if1 .taken) (check-pattern-typed t (c .before .before .before)) _ (c .before .typed2 .given .1)
 
-check-tree-kids-of-requires : (t : ℕ) → check-tree-lts.Need-kids-of-requires (check-tree-claims t) (check-tree-at t) check-tree.Post check-tree-Inv-loop check-tree-μ-loop
-check-tree-kids-of-requires t c κs = tree-kids (c .before .before .before .before .before .before .before .before .before .before .before .before .pre .1) (c .before .before .before .before .loop .inv) (c .before .before .before .loop-test .taken) _ (c .before .before .read-line .ensures)
+check-pattern-kids-of-requires : (t : ℕ) → check-pattern-lts.Need-kids-of-requires (check-pattern-claims t) (check-pattern-at t) check-pattern.Post check-pattern-Inv-loop check-pattern-μ-loop
+check-pattern-kids-of-requires t c κs = pattern-kids (c .before .before .before .before .before .before .before .before .pre .1) (c .before .before .before .before .loop .inv) (c .before .before .before .loop-test .taken) _ (c .before .before .read-line .ensures)
 
-check-tree-past-requires : (t : ℕ) → check-tree-lts.Need-past-requires (check-tree-claims t) (check-tree-at t) check-tree.Post check-tree-Inv-loop check-tree-μ-loop
-check-tree-past-requires t c κs = tree-past (c .before .before .before .before .before .before .before .before .before .before .before .before .before .pre .1) (c .before .before .before .before .before .loop .inv) (c .before .before .before .before .loop-test .taken) _ (c .before .before .before .read-line .ensures) (λ e. c .before .if3 .left (c .before .before .class-of2 .ensures ∙ e)) (c .kids-of .ensures)
+check-pattern-past-requires : (t : ℕ) → check-pattern-lts.Need-past-requires (check-pattern-claims t) (check-pattern-at t) check-pattern.Post check-pattern-Inv-loop check-pattern-μ-loop
+check-pattern-past-requires t c κs = pattern-past (c .before .before .before .before .before .before .before .before .before .pre .1) (c .before .before .before .before .before .loop .inv) (c .before .before .before .before .loop-test .taken) _ (c .before .before .before .read-line .ensures) (λ e. c .before .if1 .left (c .before .before .class-of .ensures ∙ e)) (c .kids-of .ensures)
 
-check-tree-sub-todo-2 : (t : ℕ) → check-tree-lts.Need-sub-todo-2 (check-tree-claims t) (check-tree-at t) check-tree.Post check-tree-Inv-loop check-tree-μ-loop
-check-tree-sub-todo-2 t c = search needs
+check-pattern-sub-todo-2 : (t : ℕ) → check-pattern-lts.Need-sub-todo-2 (check-pattern-claims t) (check-pattern-at t) check-pattern.Post check-pattern-Inv-loop check-pattern-μ-loop
+check-pattern-sub-todo-2 t c = search needs
 
-check-tree-add-todo : (t : ℕ) → check-tree-lts.Need-add-todo (check-tree-claims t) (check-tree-at t) check-tree.Post check-tree-Inv-loop check-tree-μ-loop
-check-tree-add-todo t c = omega (arith, tree-todo (c .before .before .before .before .before .before .before .before .before .before .before .before .before .before .before .pre .1) (c .before .before .before .before .before .before .before .loop .inv), c .before .before .kids-of .ensures .small)
+check-pattern-add-todo : (t : ℕ) → check-pattern-lts.Need-add-todo (check-pattern-claims t) (check-pattern-at t) check-pattern.Post check-pattern-Inv-loop check-pattern-μ-loop
+check-pattern-add-todo t c = omega (arith, pattern-todo (c .before .before .before .before .before .before .before .before .before .before .before .pre .1) (c .before .before .before .before .before .before .before .loop .inv), c .before .before .kids-of .ensures .small)
 
-check-tree-loop-less-2 : (t : ℕ) → check-tree-lts.Need-loop-less-2 (check-tree-claims t) (check-tree-at t) check-tree.Post check-tree-Inv-loop check-tree-μ-loop
-check-tree-loop-less-2 t c = omega (arith, tree-line (c .before .before .before .before .before .before .before .before .before .before .before .before .before .before .before .pre .1) (c .before .before .before .before .before .before .before .loop .inv), c .before .past .ensures .1)
+check-pattern-loop-less-2 : (t : ℕ) → check-pattern-lts.Need-loop-less-2 (check-pattern-claims t) (check-pattern-at t) check-pattern.Post check-pattern-Inv-loop check-pattern-μ-loop
+check-pattern-loop-less-2 t c = omega (arith, pattern-line (c .before .before .before .before .before .before .before .before .before .before .before .pre .1) (c .before .before .before .before .before .before .before .loop .inv), c .before .past .ensures .1)
 
-check-tree-loop-again-2 : (t : ℕ) → check-tree-lts.Need-loop-again-2 (check-tree-claims t) (check-tree-at t) check-tree.Post check-tree-Inv-loop check-tree-μ-loop
-check-tree-loop-again-2 t c = tree-pass (c .before .before .before .before .before .before .before .before .before .before .before .before .before .before .before .pre .1) (c .before .before .before .before .before .before .before .loop .inv) (c .before .before .before .before .before .before .loop-test .taken) _ (c .before .before .before .before .before .read-line .ensures) (λ e. c .before .before .before .if3 .left (c .before .before .before .before .class-of2 .ensures ∙ e)) (c .before .before .kids-of .ensures) _ (c .before .past .ensures)
+check-pattern-loop-again-2 : (t : ℕ) → check-pattern-lts.Need-loop-again-2 (check-pattern-claims t) (check-pattern-at t) check-pattern.Post check-pattern-Inv-loop check-pattern-μ-loop
+check-pattern-loop-again-2 t c = pattern-pass (c .before .before .before .before .before .before .before .before .before .before .before .pre .1) (c .before .before .before .before .before .before .before .loop .inv) (c .before .before .before .before .before .before .loop-test .taken) _ (c .before .before .before .before .before .read-line .ensures) (λ e. c .before .before .before .if1 .left (c .before .before .before .before .class-of .ensures ∙ e)) (c .before .before .kids-of .ensures) _ (c .before .past .ensures)
 
-check-tree-slice-write-work : (t : ℕ) → check-tree-lts.Need-slice-write-work (check-tree-claims t) (check-tree-at t) check-tree.Post check-tree-Inv-loop check-tree-μ-loop
-check-tree-slice-write-work t c = omega (arith, tree-room (c .before .before .before .before .before .before .before .before .before .pre .1) (c .before .loop .inv))
+check-pattern-slice-write-work : (t : ℕ) → check-pattern-lts.Need-slice-write-work (check-pattern-claims t) (check-pattern-at t) check-pattern.Post check-pattern-Inv-loop check-pattern-μ-loop
+check-pattern-slice-write-work t c = omega (arith, pattern-room (c .before .before .before .before .before .pre .1) (c .before .loop .inv))
 
-check-tree-slice-write-work-2 : (t : ℕ) → check-tree-lts.Need-slice-write-work-2 (check-tree-claims t) (check-tree-at t) check-tree.Post check-tree-Inv-loop check-tree-μ-loop
-check-tree-slice-write-work-2 t c = lt-length-set (c .before .loop .work) 0 80 (omega (arith, tree-room (c .before .before .before .before .before .before .before .before .before .pre .1) (c .before .loop .inv)))
+check-pattern-slice-write-work-2 : (t : ℕ) → check-pattern-lts.Need-slice-write-work-2 (check-pattern-claims t) (check-pattern-at t) check-pattern.Post check-pattern-Inv-loop check-pattern-μ-loop
+check-pattern-slice-write-work-2 t c = lt-length-set (c .before .loop .work) 0 80 (omega (arith, pattern-room (c .before .before .before .before .before .pre .1) (c .before .loop .inv)))
 
-check-tree-same-length-7 : (t : ℕ) → check-tree-lts.Need-same-length-7 (check-tree-claims t) (check-tree-at t) check-tree.Post check-tree-Inv-loop check-tree-μ-loop
-check-tree-same-length-7 t c = search needs
+check-pattern-same-length-3 : (t : ℕ) → check-pattern-lts.Need-same-length-3 (check-pattern-claims t) (check-pattern-at t) check-pattern.Post check-pattern-Inv-loop check-pattern-μ-loop
+check-pattern-same-length-3 t c = search needs
 
-check-tree-same-length-8 : (t : ℕ) → check-tree-lts.Need-same-length-8 (check-tree-claims t) (check-tree-at t) check-tree.Post check-tree-Inv-loop check-tree-μ-loop
-check-tree-same-length-8 t c = search needs
+check-pattern-same-length-4 : (t : ℕ) → check-pattern-lts.Need-same-length-4 (check-pattern-claims t) (check-pattern-at t) check-pattern.Post check-pattern-Inv-loop check-pattern-μ-loop
+check-pattern-same-length-4 t c = search needs
 
-check-tree-returns-4 : (t : ℕ) → check-tree-lts.Need-returns-4 (check-tree-claims t) (check-tree-at t) check-tree.Post check-tree-Inv-loop check-tree-μ-loop
-check-tree-returns-4 t c = tree-end (c .before .before .before .before .before .before .before .before .before .pre .1) (c .before .loop .inv) (omega (arith, c .loop-test .left)) (c .before .before .before .before .before .entered .ensures) (λ e. c .before .before .if1 .left (c .before .before .before .class-of .ensures ∙ e))
+check-pattern-returns-2 : (t : ℕ) → check-pattern-lts.Need-returns-2 (check-pattern-claims t) (check-pattern-at t) check-pattern.Post check-pattern-Inv-loop check-pattern-μ-loop
+check-pattern-returns-2 t c = pattern-end (c .before .before .before .before .before .pre .1) (c .before .loop .inv) (omega (arith, c .loop-test .left))
+
+check-tree-entered-requires : (t : ℕ) → check-tree-lts.Need-entered-requires (check-tree-claims t) (check-tree-at t) check-tree.Post
+check-tree-entered-requires t c κs = enters (c .before .before .before .pre .1 .at)
+
+check-tree-class-of-requires : (t : ℕ) → check-tree-lts.Need-class-of-requires (check-tree-claims t) (check-tree-at t) check-tree.Post
+check-tree-class-of-requires t c κs = search needs
+
+check-tree-is-leaf-requires : (t : ℕ) → check-tree-lts.Need-is-leaf-requires (check-tree-claims t) (check-tree-at t) check-tree.Post
+check-tree-is-leaf-requires t c κs = search needs
+
+check-tree-infer-leaf-requires : (t : ℕ) → check-tree-lts.Need-infer-leaf-requires (check-tree-claims t) (check-tree-at t) check-tree.Post
+check-tree-infer-leaf-requires t c κs = record { depth = _; ask = via-ask (c .before .before .before .before .before .before .before .before .before .before .before .before .pre .1) (c .before .before .before .before .before .before .before .before .entered .ensures) (sym (c .before .before .before .before .before .before .class-of .ensures) ∙ c .before .before .before .before .before .if1 .taken); leaf = c .before .before .before .is-leaf .ensures (c .before .before .if2 .taken) }
+
+check-tree-same-length : (t : ℕ) → check-tree-lts.Need-same-length (check-tree-claims t) (check-tree-at t) check-tree.Post
+check-tree-same-length t c = search needs
+
+check-tree-same-length-2 : (t : ℕ) → check-tree-lts.Need-same-length-2 (check-tree-claims t) (check-tree-at t) check-tree.Post
+check-tree-same-length-2 t c = search needs
+
+check-tree-returns : (t : ℕ) → check-tree-lts.Need-returns (check-tree-claims t) (check-tree-at t) check-tree.Post
+check-tree-returns t c = via-walked (c .before .before .before .before .before .before .before .before .before .before .before .before .before .entered .ensures) (sym (c .before .before .before .before .before .before .before .before .before .before .before .class-of .ensures) ∙ c .before .before .before .before .before .before .before .before .before .before .if1 .taken) (c .before .before .before .before .infer-leaf .ensures _)
+
+check-tree-infer-expr-requires : (t : ℕ) → check-tree-lts.Need-infer-expr-requires (check-tree-claims t) (check-tree-at t) check-tree.Post
+check-tree-infer-expr-requires t c κs = (omega (arith, c .before .before .before .before .before .before .before .before .before .before .before .before .pre .0), via-ask (c .before .before .before .before .before .before .before .before .before .before .before .before .pre .1) (c .before .before .before .before .before .before .before .before .entered .ensures) (sym (c .before .before .before .before .before .before .class-of .ensures) ∙ c .before .before .before .before .before .if1 .taken))
+
+check-tree-same-length-3 : (t : ℕ) → check-tree-lts.Need-same-length-3 (check-tree-claims t) (check-tree-at t) check-tree.Post
+check-tree-same-length-3 t c = search needs
+
+check-tree-same-length-4 : (t : ℕ) → check-tree-lts.Need-same-length-4 (check-tree-claims t) (check-tree-at t) check-tree.Post
+check-tree-same-length-4 t c = search needs
+
+check-tree-returns-2 : (t : ℕ) → check-tree-lts.Need-returns-2 (check-tree-claims t) (check-tree-at t) check-tree.Post
+check-tree-returns-2 t c = via-walked (c .before .before .before .before .before .before .before .before .before .before .before .before .before .entered .ensures) (sym (c .before .before .before .before .before .before .before .before .before .before .before .class-of .ensures) ∙ c .before .before .before .before .before .before .before .before .before .before .if1 .taken) (c .before .before .before .before .infer-expr .ensures)
+
+check-tree-check-pattern-requires : (t : ℕ) → check-tree-lts.Need-check-pattern-requires (check-tree-claims t) (check-tree-at t) check-tree.Post
+check-tree-check-pattern-requires t c κs = (omega (arith, c .before .before .before .before .before .before .before .before .before .pre .0), neither-ask (c .before .before .before .before .before .entered .ensures) (λ e. c .before .before .if1 .left (c .before .before .before .class-of .ensures ∙ e)) (c .before .before .before .before .before .before .before .before .before .pre .1))
+
+check-tree-same-length-5 : (t : ℕ) → check-tree-lts.Need-same-length-5 (check-tree-claims t) (check-tree-at t) check-tree.Post
+check-tree-same-length-5 t c = search needs
+
+check-tree-same-length-6 : (t : ℕ) → check-tree-lts.Need-same-length-6 (check-tree-claims t) (check-tree-at t) check-tree.Post
+check-tree-same-length-6 t c = search needs
+
+check-tree-returns-3 : (t : ℕ) → check-tree-lts.Need-returns-3 (check-tree-claims t) (check-tree-at t) check-tree.Post
+check-tree-returns-3 t c = neither-walked (c .before .before .before .before .before .before .before .before .before .before .entered .ensures) (λ e. c .before .before .before .before .before .before .before .if1 .left (c .before .before .before .before .before .before .before .before .class-of .ensures ∙ e)) (c .before .before .before .before .check-pattern .ensures)
 
 abbrev infer-expr-Inv-loop : infer-expr-lts.InvT-loop
 infer-expr-Inv-loop b sheet h depth work₀ out₀ here n rule c₀ y₀ st₀ j₀ work out c y st j = InferInv sheet b h depth work₀ out₀ here y₀ work out c y st j
@@ -298,12 +331,41 @@ infer-expr-same-length-6 t c = search needs
 infer-expr-returns-3 : (t : ℕ) → infer-expr-lts.Need-returns-3 (infer-expr-claims t) (infer-expr-at t) infer-expr.Post infer-expr-Inv-loop infer-expr-μ-loop
 infer-expr-returns-3 t c = infer-end (c .before .before .before .before .before .before .before .before .before .before .before .before .before .before .before .before .before .before .before .before .before .pre .1) (c .before .before .before .before .before .before .before .before .before .loop .inv) (c .before .before .before .before .before .before .before .before .before .before .before .before .start .ensures .0) (c .before .before .before .before .before .before .before .before .before .before .before .before .before .before .before .before .kids-of .ensures) (c .before .before .before .before .before .before .before .before .loop-test .left) (c .before .before .before .before .before .finish .ensures) (c .told .ensures)
 
-pub +check-tree+infer-expr-spec : {M : Type 1} → statement M
-+check-tree+infer-expr-spec = close μ-check-tree μ-infer-expr (λ t. check-tree-lts.spec (check-tree-claims t)
+pub +check-pattern+check-tree+infer-expr-spec : {M : Type 1} → statement M
++check-pattern+check-tree+infer-expr-spec =
+    close μ-check-pattern μ-check-tree μ-infer-expr (λ t. check-pattern-lts.spec (check-pattern-claims t)
+    (check-pattern-at t)
+    check-pattern.Post
+    check-pattern-Inv-loop
+    check-pattern-μ-loop
+    (check-pattern-loop-holds t)
+    (check-pattern-read-line-requires t)
+    (check-pattern-class-of-requires t)
+    (check-pattern-is-leaf-requires t)
+    (check-pattern-infer-leaf-requires t)
+    (check-pattern-infer-expr-requires t)
+    (check-pattern-enum-known-typed t)
+    (check-pattern-sub-todo t)
+    (check-pattern-loop-less t)
+    (check-pattern-loop-again t)
+    (check-pattern-enum-known-typed-2 t)
+    (check-pattern-same-length t)
+    (check-pattern-same-length-2 t)
+    (check-pattern-returns t)
+    (check-pattern-kids-of-requires t)
+    (check-pattern-past-requires t)
+    (check-pattern-sub-todo-2 t)
+    (check-pattern-add-todo t)
+    (check-pattern-loop-less-2 t)
+    (check-pattern-loop-again-2 t)
+    (check-pattern-slice-write-work t)
+    (check-pattern-slice-write-work-2 t)
+    (check-pattern-same-length-3 t)
+    (check-pattern-same-length-4 t)
+    (check-pattern-returns-2 t))
+    (λ t. check-tree-lts.spec (check-tree-claims t)
     (check-tree-at t)
     check-tree.Post
-    check-tree-Inv-loop
-    check-tree-μ-loop
     (check-tree-entered-requires t)
     (check-tree-class-of-requires t)
     (check-tree-is-leaf-requires t)
@@ -315,57 +377,11 @@ pub +check-tree+infer-expr-spec : {M : Type 1} → statement M
     (check-tree-same-length-3 t)
     (check-tree-same-length-4 t)
     (check-tree-returns-2 t)
-    (check-tree-loop-holds t)
-    (check-tree-read-line-requires t)
-    (check-tree-class-of-requires-2 t)
-    (check-tree-is-leaf-requires-2 t)
-    (check-tree-infer-leaf-requires-2 t)
-    (check-tree-infer-expr-requires-2 t)
-    (check-tree-enum-known-typed t)
-    (check-tree-sub-todo t)
-    (check-tree-loop-less t)
-    (check-tree-loop-again t)
-    (check-tree-enum-known-typed-2 t)
+    (check-tree-check-pattern-requires t)
     (check-tree-same-length-5 t)
     (check-tree-same-length-6 t)
-    (check-tree-returns-3 t)
-    (check-tree-kids-of-requires t)
-    (check-tree-past-requires t)
-    (check-tree-sub-todo-2 t)
-    (check-tree-add-todo t)
-    (check-tree-loop-less-2 t)
-    (check-tree-loop-again-2 t)
-    (check-tree-slice-write-work t)
-    (check-tree-slice-write-work-2 t)
-    (check-tree-same-length-7 t)
-    (check-tree-same-length-8 t)
-    (check-tree-returns-4 t))
-    λ t. infer-expr-lts.spec (
-      kids-of-reads.Asked,
-      kids-of-reads.Learnt,
-      rule-of-reads.Asked,
-      rule-of-reads.Learnt,
-      past-reads.Asked,
-      past-reads.Learnt,
-      start-reads.Asked,
-      start-reads.Learnt,
-      read-line-reads.Asked,
-      read-line-reads.Learnt,
-      check-tree-below t,
-      check-tree.Post,
-      role-of-reads.Asked,
-      role-of-reads.Learnt,
-      spelt-reads.Asked,
-      spelt-reads.Learnt,
-      held-reads.Asked,
-      held-reads.Learnt,
-      step-reads.Asked,
-      step-reads.Learnt,
-      finish-reads.Asked,
-      finish-reads.Learnt,
-      told-reads.Asked,
-      told-reads.Learnt,
-    )
+    (check-tree-returns-3 t))
+    λ t. infer-expr-lts.spec (infer-expr-claims t)
     (infer-expr-at t)
     infer-expr.Post
     infer-expr-Inv-loop

@@ -1,10 +1,10 @@
--- `fault_start`: the fixed bytes of a code are its digits, computed. Assumes nothing.
+-- `fault_code`: the fixed bytes of a code are its digits, computed. Assumes nothing.
 use native.Mathlib.Omega.{arith}
 use Rattle.semantics.specs.Bytes.{shown, shownIn}
 use Rattle.report.proofs.ReportLaws.{starts, last-code}
 use borrow.Author.Needs.{needs}
-use Rattle.report.proofs.fault_start.Statement.{statement}
-use Rattle.report.proofs.fault_start.Tie as tie
+use Rattle.report.proofs.fault_code.Statement.{statement}
+use Rattle.report.proofs.fault_code.Tie as tie
 
 slice-aggregate-append : tie.Need-slice-aggregate-append
 slice-aggregate-append c = search needs
@@ -85,11 +85,11 @@ unfolding shown shownIn
 returns-6 c =
     let m = c .before .before .before .before .before in
     let r = m .match .rest in
-    let e = last-code (m .before .before .args .code) (m .before .before .pre .1) (r .0 .0 .0 .0 .1) (r .0 .0 .0 .1) (r .0 .0 .1) (r .0 .1) (r .1) in
+    let e = last-code (m .before .before .args .code) (m .before .before .pre) (r .0 .0 .0 .0 .1) (r .0 .0 .0 .1) (r .0 .0 .1) (r .0 .1) (r .1) in
     starts 5012 e (omega arith) (c .before .before .append6 .ensures)
 
-pub fault-start-spec : {M : Type 1} → statement M
-fault-start-spec =
+pub fault-code-spec : {M : Type 1} → statement M
+fault-code-spec =
     tie.close
     (tie.spec
     slice-aggregate-append
