@@ -6,6 +6,7 @@ use mathlib.Core.Option.{Option, none, some}
 use mathlib.Core.Bool.{Bool, true, false}
 use lib.Dec.{eqb}
 use lib.ListN.{length, take, getD}
+use Rattle.semantics.specs.Codes.{anyLetter, stringLetter, listLetter, mapLetter, nodeLetter, relationshipLetter, pathLetter, unknownLetter}
 use Rattle.semantics.specs.Bytes.{Bytes}
 use Rattle.semantics.specs.Ty.{tAny, tInt, tString, Ty, base, tList, line}
 use Rattle.semantics.specs.Builtins.{ArgShape, sAny, sList, sString, sListOrString, sGraphEntity, sMap, sGraphEntityOrMap, ReturnShape, fixed, listElement, listSelf, signature, Builtin, ID, SIZE, HEAD, TAIL, LAST, KEYS, VALUES, builtins, shape, all?, accepts, resolveReturn}
@@ -40,17 +41,17 @@ pub record RowFor (b : Builtin) (r : Row) : Type 0 where
 -- what the shapes tell apart of a type, by its kind letter: 0 Any and Unknown, 1 strings, 2 paths, 3 lists, 4 nodes and relationships, 5 maps
 unfoldable pub classOf : ℕ → ℕ
 classOf k =
-    elim (eqb k 65) [
+    elim (eqb k anyLetter) [
       | true ↦ 0
-      | false ↦ elim (eqb k 80) [
+      | false ↦ elim (eqb k unknownLetter) [
         | true ↦ 0
-        | false ↦ elim (eqb k 71) [
+        | false ↦ elim (eqb k stringLetter) [
           | true ↦ 1
-          | false ↦ elim (eqb k 78) [
+          | false ↦ elim (eqb k pathLetter) [
             | true ↦ 2
-            | false ↦ elim (eqb k 74) [
+            | false ↦ elim (eqb k listLetter) [
               | true ↦ 3
-              | false ↦ elim (eqb k 76) [ true ↦ 4 | false ↦ elim (eqb k 77) [ true ↦ 4 | false ↦ elim (eqb k 75) [ true ↦ 5 | false ↦ 6 ] ] ]
+              | false ↦ elim (eqb k nodeLetter) [ true ↦ 4 | false ↦ elim (eqb k relationshipLetter) [ true ↦ 4 | false ↦ elim (eqb k mapLetter) [ true ↦ 5 | false ↦ 6 ] ] ]
             ]
           ]
         ]

@@ -6,6 +6,7 @@ use mathlib.Core.Bool.{Bool, true, false, _&&_, _||_, not}
 use Prim.Native.Nat.{ℕ, zero, suc, _+_, _-_, _*_, _/_, _%_}
 use lib.ListN.{length, take, drop, replicate}
 use lib.Dec.{eqb, ltb, leb}
+use Rattle.semantics.specs.Codes.{noTypeLine, wrongSize, storeFull, countUsedUp, notLive}
 use Rattle.semantics.specs.Bytes.{Bytes, same}
 use Rattle.semantics.specs.Ty.{typeLine}
 use Rattle.text.specs.Text.{some?}
@@ -37,9 +38,16 @@ numberLimit = 65535
 abbrev pub usesLimit : ℕ
 usesLimit = 4294967295
 
+-- bytes before the entries: the last number and zeros; and before the text of each: its number, its length, its uses
+abbrev pub storeHead : ℕ
+storeHead = 8
+
+abbrev pub entryHead : ℕ
+entryHead = 8
+
 -- what a live type takes
 abbrev pub size : Live → ℕ
-size l = length (l .text) + 8
+size l = length (l .text) + entryHead
 
 unfoldable pub taken : List Live → ℕ
 taken [] = 0
@@ -84,17 +92,17 @@ used c n u = record { last = c .last; live = setUses n u (c .live) }
 
 -- one use more of a type that is there, 14 if that passes 32 bits
 unfoldable pub enterOld : Catalogue → Live → Called
-enterOld c l = elim (ltb (l .uses) usesLimit) [ true ↦ (tells (l .number) (l .uses + 1) [], used c (l .number) (l .uses + 1)) | false ↦ (refuses 14 0, c) ]
+enterOld c l = elim (ltb (l .uses) usesLimit) [ true ↦ (tells (l .number) (l .uses + 1) [], used c (l .number) (l .uses + 1)) | false ↦ (refuses countUsedUp 0, c) ]
 
 -- the next number: 14, then 13
 unfoldable pub enterNew : Catalogue → Bytes → Called
 enterNew c t =
     elim (ltb (c .last) numberLimit) [
-      | true ↦ elim (leb (taken (c .live) + (length t + 8)) roomLimit) [
+      | true ↦ elim (leb (taken (c .live) + (length t + entryHead)) roomLimit) [
         | true ↦ (tells (c .last + 1) 1 [], record { last = c .last + 1; live = c .live ++ (record { number = c .last + 1; uses = 1; text = t } ∷ []) })
-        | false ↦ (refuses 13 0, c)
+        | false ↦ (refuses storeFull 0, c)
       ]
-      | false ↦ (refuses 14 0, c)
+      | false ↦ (refuses countUsedUp 0, c)
     ]
 
 unfoldable pub enterBy : Catalogue → Bytes → Option Live → Called
@@ -102,17 +110,17 @@ enterBy c t none = enterNew c t
 enterBy c t (some l) = enterOld c l
 
 unfoldable pub enter : Catalogue → Bytes → Called
-enter c t = elim (some? (typeLine t)) [ true ↦ enterBy c t (withText t (c .live)) | false ↦ (refuses 8 1, c) ]
+enter c t = elim (some? (typeLine t)) [ true ↦ enterBy c t (withText t (c .live)) | false ↦ (refuses noTypeLine 1, c) ]
 
 unfoldable pub releaseBy : Catalogue → Option Live → Called
-releaseBy c none = (refuses 15 0, c)
+releaseBy c none = (refuses notLive 0, c)
 releaseBy c (some l) = (tells (l .uses - 1) 0 [], used c (l .number) (l .uses - 1))
 
 unfoldable pub release : Catalogue → ℕ → Called
 release c n = releaseBy c (withNumber n (c .live))
 
 unfoldable pub lookUpBy : Catalogue → Option Live → Called
-lookUpBy c none = (refuses 15 0, c)
+lookUpBy c none = (refuses notLive 0, c)
 lookUpBy c (some l) = (tells (l .uses) 0 (l .text), c)
 
 unfoldable pub lookUp : Catalogue → ℕ → Called
@@ -158,12 +166,12 @@ zeros? (b ∷ bs) = eqb b 0 && zeros? bs
 unfoldable pub readLive : ℕ → Bytes → Option (List Live)
 readLive zero s = none
 readLive (suc k) s =
-    elim (ltb (length s) 8 || eqb (value (take 2 s)) 0) [
+    elim (ltb (length s) entryHead || eqb (value (take 2 s)) 0) [
       | true ↦ elim (zeros? s) [ true ↦ some [] | false ↦ none ]
       | false ↦ let n = value (take 2 (drop 2 s)) in
-          elim (ltb (length (drop 8 s)) n) [
+          elim (ltb (length (drop entryHead s)) n) [
             | true ↦ none
-            | false ↦ onto (record { number = value (take 2 s); uses = value (take 4 (drop 4 s)); text = take n (drop 8 s) }) (readLive k (drop n (drop 8 s)))
+            | false ↦ onto (record { number = value (take 2 s); uses = value (take 4 (drop 4 s)); text = take n (drop entryHead s) }) (readLive k (drop n (drop entryHead s)))
           ]
     ]
   where
@@ -188,7 +196,7 @@ fine last (some ls) = elim (fineLive 0 last ls) [ true ↦ some (record { last =
 unfoldable pub readStore : Bytes → Option Catalogue
 readStore s =
     elim (eqb (length s) storeSize && zeros? (take 6 (drop 2 s))) [
-      | true ↦ fine (value (take 2 s)) (readLive storeSize (drop 8 s))
+      | true ↦ fine (value (take 2 s)) (readLive storeSize (drop storeHead s))
       | false ↦ none
     ]
 
@@ -199,7 +207,7 @@ pub record Kept : Type 0 where
   pub store : Bytes
 
 unfoldable pub callBy : Bytes → Option Catalogue → Ask → Kept
-callBy s none a = record { told = refuses 2 0; store = s }
+callBy s none a = record { told = refuses wrongSize 0; store = s }
 callBy s (some c) a = let r = call c a in record { told = r .0; store = stored (r .1) }
 
 unfoldable pub storeCall : Bytes → Ask → Kept
@@ -208,11 +216,11 @@ storeCall s a = callBy s (readStore s) a
 -- where the line of a number stands in the store, "as that part of the store"; 0 if none has it (RULES 7.8)
 unfoldable pub linePlace : ℕ → ℕ → List Live → ℕ
 linePlace n at [] = 0
-linePlace n at (l ∷ ls) = elim (eqb n (l .number)) [ true ↦ at + 8 | false ↦ linePlace n (at + 8 + length (l .text)) ls ]
+linePlace n at (l ∷ ls) = elim (eqb n (l .number)) [ true ↦ at + entryHead | false ↦ linePlace n (at + entryHead + length (l .text)) ls ]
 
 unfoldable pub placeIn : Option Catalogue → ℕ → ℕ
 placeIn none n = 0
-placeIn (some c) n = linePlace n 8 (c .live)
+placeIn (some c) n = linePlace n storeHead (c .live)
 
 abbrev pub placeOf : Bytes → ℕ → ℕ
 placeOf s n = placeIn (readStore s) n

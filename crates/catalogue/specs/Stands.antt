@@ -6,7 +6,7 @@ use Prim.Native.Nat.{ℕ, _+_, _≤_}
 use lib.ListN.{length}
 use lib.Seq.{slice, sets}
 use Rattle.semantics.specs.Bytes.{Bytes}
-use Rattle.catalogue.specs.Catalogue.{Live, Catalogue, low, taken, stored, readStore, Called, Kept, lookingUp, storeCall, placeOf}
+use Rattle.catalogue.specs.Catalogue.{Live, Catalogue, low, taken, stored, readStore, Called, Kept, lookingUp, storeCall, placeOf, storeHead, entryHead}
 use Rattle.catalogue.specs.declared.Call.{Call}
 use Rattle.catalogue.specs.declared.Line.{Line}
 
@@ -19,7 +19,7 @@ pub record Opened (s : Bytes) (last end : ℕ) : Type 0 where
   pub list : Catalogue
   pub form : Open s list
   pub given : last ≡ list .last
-  pub ends : end ≡ 8 + taken (list .live)
+  pub ends : end ≡ storeHead + taken (list .live)
 
 -- one of its live types, at its place
 pub record Stands (s : Bytes) (c : Catalogue) (at : ℕ) (l : Live) : Type 0 where
@@ -27,7 +27,7 @@ pub record Stands (s : Bytes) (c : Catalogue) (at : ℕ) (l : Live) : Type 0 whe
   pub before : List Live
   pub after : List Live
   pub live : c .live ≡ before ++ (l ∷ after)
-  pub place : at ≡ 8 + taken before
+  pub place : at ≡ storeHead + taken before
 
 pub record Standing (s : Bytes) (at : ℕ) : Type 0 where
   pub list : Catalogue
@@ -39,16 +39,16 @@ pub record StandsTo (s : Bytes) (at end : ℕ) : Type 0 where
   pub list : Catalogue
   pub type : Live
   pub stands : Stands s list at type
-  pub ends : end ≡ 8 + taken (list .live)
+  pub ends : end ≡ storeHead + taken (list .live)
 
 pub record EndsAt (s : Bytes) (end : ℕ) : Type 0 where
   pub list : Catalogue
   pub form : Open s list
-  pub ends : end ≡ 8 + taken (list .live)
+  pub ends : end ≡ storeHead + taken (list .live)
 
 -- a type more, behind the others
 abbrev pub added : Bytes → Bytes → ℕ → ℕ → Bytes
-added s t n end = sets (sets (sets (sets (sets s 0 (low 2 n)) end (low 2 n)) (end + 2) (low 2 (length t))) (end + 4) (low 4 1)) (end + 8) t
+added s t n end = sets (sets (sets (sets (sets s 0 (low 2 n)) end (low 2 n)) (end + 2) (low 2 (length t))) (end + 4) (low 4 1)) (end + entryHead) t
 
 abbrev pub keptOf : Called → Kept
 keptOf r = record { told = r .0; store = stored (r .1) }

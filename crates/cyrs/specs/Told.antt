@@ -3,6 +3,7 @@ use Prim.Native.Nat.{ℕ, _≤_}
 use mathlib.Core.Path.{_≡_}
 use mathlib.Core.List.{_++_}
 use lib.ListN.{length}
+use Rattle.semantics.specs.Codes.{typeTooLarge, mismatched}
 use Rattle.semantics.specs.Limits.{typeLimit, unifyOutput}
 use Rattle.semantics.specs.Bytes.{Bytes}
 use Rattle.semantics.specs.Ty.{Ty, line}
@@ -31,8 +32,8 @@ pub record SomeAnswer (s : Bytes) (mark : ℕ) (u : Unified) (out : Bytes) : Typ
 -- what is told of a run
 abbrev pub toldBy : Run → Call
 toldBy (done t) = record { number = 0; first = length (line t); second = 0 }
-toldBy (mismatch x y) = record { number = 9; first = length (line x); second = length (line y) }
-toldBy large = record { number = 6; first = 0; second = 0 }
+toldBy (mismatch x y) = record { number = mismatched; first = length (line x); second = length (line y) }
+toldBy large = record { number = typeTooLarge; first = 0; second = 0 }
 
 abbrev pub toldTo : Run → Bytes → Bytes
 toldTo (done t) out = written (line t) out
@@ -53,5 +54,5 @@ pub record Settles (U : Settled) (work out out′ : Bytes) (r : Call) : Type 0 w
   pub second : r .second ≡ U .second
   pub cleared : U .work ≡ zeros work
   pub done : r .number ≡ 0 → out′ ≡ U .out
-  pub parted : r .number ≡ 9 → out′ ≡ U .out
-  pub zeroed : (r .number ≡ 0 → ⊥) → (r .number ≡ 9 → ⊥) → U .out ≡ zeros out
+  pub parted : r .number ≡ mismatched → out′ ≡ U .out
+  pub zeroed : (r .number ≡ 0 → ⊥) → (r .number ≡ mismatched → ⊥) → U .out ≡ zeros out

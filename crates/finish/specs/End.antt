@@ -5,6 +5,7 @@ use mathlib.Core.Option.{Option, none, some}
 use Prim.Native.Nat.{ℕ, _+_, _*_, _<_, _≤_, _^_}
 use lib.ListN.{length}
 use lib.Seq.{sets}
+use Rattle.semantics.specs.Limits.{typeLimit}
 use Rattle.semantics.specs.Bytes.{Bytes}
 use Rattle.semantics.specs.Ty.{Ty}
 use Rattle.semantics.specs.Walk.{Fault}
@@ -39,12 +40,12 @@ pub record Countable (n : Tally) : Type 0 where
 pub record KeptAt (k : Kept) (s : Bytes) (st : St) : Type 0 where
   pub state : StAs k s st
   pub fine : FineKept k
-  pub wide : 1024 ≤ length s
+  pub wide : typeLimit ≤ length s
 
 -- two operands, with room for their unification
 pub record TwoAt (a b : Ty) (s : Bytes) (st : St) : Type 0 where
   pub at : KeptAt (both a b) s st
-  pub room : st .len + st .second + 1024 * slots a b ≤ length s
+  pub room : st .len + st .second + typeLimit * slots a b ≤ length s
   pub small : 8192 ≤ length s
 
 pub record SomeTwo (s : Bytes) (st : St) : Type 0 where

@@ -5,6 +5,7 @@ use mathlib.Core.Bool.{Bool, true, false}
 use Prim.Native.Nat.{ℕ, suc, zero, _+_, _-_, _/_, _≤_, _<_}
 use lib.Dec.{eqb}
 use lib.ListN.{length, getD, drop}
+use Rattle.semantics.specs.Codes.{lineFeed, badlyWritten, tooDeep, expressionRank}
 use Rattle.semantics.specs.Bytes.{Bytes, split}
 use Rattle.semantics.specs.Sheet.{Head, rank, place, clauses, bindings, check, Sheet, heads, refused, sheet}
 use Rattle.line.specs.Arrays.{groups, seconds}
@@ -25,7 +26,7 @@ pickC false a b = b
 
 -- another class is 3, then what is wrong with the fields, then the depth
 abbrev pub verdictOf : ℕ → ℕ → ℕ → ℕ → ℕ
-verdictOf q c y d = pickC (eqb q c) (pickC (eqb y 0) (pickC (eqb c 13) (pickC (eqb d 0) 5 0) 0) y) 3
+verdictOf q c y d = pickC (eqb q c) (pickC (eqb y 0) (pickC (eqb c expressionRank) (pickC (eqb d 0) tooDeep 0) 0) y) badlyWritten
 
 -- what stands right below a line
 pub record KidsAs (h : Seen) (r : Kids) : Type 0 where
@@ -46,7 +47,7 @@ pub record KidsAsk (s : Bytes) (h : Seen) (line depth : ℕ) : Type 0 where
 -- the wants were met from `from` on, and the line `line` starts at `next`
 pub record FineAs (s : Bytes) (from next line : ℕ) (r : Run) : Type 0 where
   pub heads : List Head
-  pub same : r ≡ passed heads line (split 10 (drop next s))
+  pub same : r ≡ passed heads line (split lineFeed (drop next s))
   pub on : from ≤ next
   pub inside : next ≤ length s
   pub above : line ≤ next + 1
@@ -66,7 +67,7 @@ pub record TopAsk (s : Bytes) (at line : ℕ) : Type 0 where
 -- the bindings from line n on are read, up to a line that is none; or refused; however many levels are left for what follows
 pub record BoundAs (s : Bytes) (p n next line : ℕ) : Type 0 where
   pub heads : List Head
-  pub same : (d : ℕ) → run (bindings 0 d ∷ []) n (split 10 (drop p s)) ≡ behind heads (run (clauses d ∷ []) line (split 10 (drop next s)))
+  pub same : (d : ℕ) → run (bindings 0 d ∷ []) n (split lineFeed (drop p s)) ≡ behind heads (run (clauses d ∷ []) line (split lineFeed (drop next s)))
   pub lines : Lines s p heads next
   pub top : ℕ
   pub ascending : Ascends 0 heads top
@@ -76,7 +77,7 @@ pub record BoundAs (s : Bytes) (p n next line : ℕ) : Type 0 where
 
 abbrev pub BindsAs : Bytes → ℕ → ℕ → Check → Type 0
 BindsAs s p n (Fine next line) = BoundAs s p n next (line .0)
-BindsAs s p n (Refused why line) = (d : ℕ) → run (bindings 0 d ∷ []) n (split 10 (drop p s)) ≡ stopped why (line .0)
+BindsAs s p n (Refused why line) = (d : ℕ) → run (bindings 0 d ∷ []) n (split lineFeed (drop p s)) ≡ stopped why (line .0)
 
 abbrev pub pickE : Bool → Check → Check → Check
 pickE true a b = a
@@ -84,12 +85,12 @@ pickE false a b = b
 
 -- the `end` line: its fields, and nothing behind it
 abbrev pub endOf : Seen → HirId → ℕ → Check
-endOf h line len = pickE (eqb (h .why) 0) (pickE (eqb (h .next) len) (Fine len line) (Refused 3 (record { 0 = line .0 + 1 }))) (Refused (h .why) line)
+endOf h line len = pickE (eqb (h .why) 0) (pickE (eqb (h .next) len) (Fine len line) (Refused badlyWritten (record { 0 = line .0 + 1 }))) (Refused (h .why) line)
 
 -- the clauses and the `end` line, and nothing behind it
 abbrev pub ClausesAs : ℕ → Bytes → ℕ → ℕ → Check → Type 0
-ClausesAs d s p n (Fine next line) = (hs : List Head) × (check (clauses d ∷ []) n (split 10 (drop p s)) ≡ heads hs)
-ClausesAs d s p n (Refused why line) = check (clauses d ∷ []) n (split 10 (drop p s)) ≡ refused why (line .0)
+ClausesAs d s p n (Fine next line) = (hs : List Head) × (check (clauses d ∷ []) n (split lineFeed (drop p s)) ≡ heads hs)
+ClausesAs d s p n (Refused why line) = check (clauses d ∷ []) n (split lineFeed (drop p s)) ≡ refused why (line .0)
 
 -- ## The whole sheet
 

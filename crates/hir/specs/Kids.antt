@@ -4,6 +4,7 @@ use mathlib.Core.Bool.{Bool, true, false}
 use Prim.Native.Nat.{ℕ, suc, zero, _+_, _-_, _*_, _/_, _%_}
 use lib.ListN.{getD, replicate}
 use lib.Dec.{eqb, ltb}
+use Rattle.semantics.specs.Codes.{expressionRank}
 use Rattle.semantics.specs.Sheet.{Place, AtFirst, AtBinding, AtClause, AtEnd, AtProjection, AtSetItem, AtRemoveItem, AtLabel, AtParts, AtPart, AtElement, AtEntry, AtItem, AtExpression, Want, at}
 use Rattle.line.specs.Arrays.{classes, groups, seconds}
 
@@ -40,4 +41,4 @@ kidWants w c f d =
 
 -- how far a place is from what holds no other: falls from a line to the lines under it, but for expressions
 unfoldable pub level : ℕ → ℕ
-level c = elim (eqb c 13) [ true ↦ 13 | false ↦ elim (eqb c 7) [ true ↦ 0 | false ↦ 12 - c ] ]
+level c = elim (eqb c expressionRank) [ true ↦ expressionRank | false ↦ elim (eqb c 7) [ true ↦ 0 | false ↦ 12 - c ] ]

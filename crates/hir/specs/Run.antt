@@ -1,6 +1,7 @@
 -- The lines of a sheet against what is wanted, up to where nothing more is wanted: the same reading as `check`, which goes on there.
 use mathlib.Core.List.{List, [], _∷_, _++_}
 use Prim.Native.Nat.{ℕ, suc}
+use Rattle.semantics.specs.Codes.{badlyWritten}
 use Rattle.semantics.specs.Bytes.{Bytes}
 use Rattle.semantics.specs.Sheet.{Head, Read, bad, ok, Want, under, readLine, Sheet, refused, heads, add, check}
 
@@ -20,7 +21,7 @@ carryOn n (ok h) rest = before h (rest h)
 -- where no whole line is left
 unfoldable pub atEnd : List Want → ℕ → List Bytes → Run
 atEnd [] n ls = passed [] n ls
-atEnd (w ∷ ws) n ls = stopped 3 n
+atEnd (w ∷ ws) n ls = stopped badlyWritten n
 
 unfoldable pub run : List Want → ℕ → List Bytes → Run
 run ws n [] = atEnd ws n []

@@ -5,6 +5,7 @@ use mathlib.Core.Option.{Option, none, some}
 use Prim.Native.Nat.{ℕ, _+_, _*_, _≤_, _<_}
 use lib.ListN.{length}
 use lib.Seq.{sets}
+use Rattle.semantics.specs.Limits.{typeLimit}
 use Rattle.semantics.specs.Bytes.{Bytes}
 use Rattle.semantics.specs.Sheet.{Head}
 use Rattle.semantics.specs.Walk.{Env, Top, walk, allTests}
@@ -30,7 +31,7 @@ pub record StatementAsk (levels : ℕ) (s : Bytes) (b : Binds) (c : Cur) (work :
   pub at : StatementAt levels s c
   pub env : Env
   pub bound : EnvAs s b env
-  pub room : 1024 * (levels + 40) ≤ length work
+  pub room : typeLimit * (levels + 40) ≤ length work
 
 -- the line of the first type that is too large; or the report from the start of the output on, and its length
 abbrev pub MadeAs : Option ℕ → List Top → Bytes → Bytes → Report → Type 0

@@ -7,6 +7,8 @@ use Prim.Native.Nat.{ℕ, _+_, _*_, _<_, _≤_}
 use lib.Dec.{eqb}
 use lib.ListN.{length}
 use lib.Seq.{slice}
+use Rattle.semantics.specs.Limits.{typeLimit}
+use Rattle.semantics.specs.Codes.{comma}
 use Rattle.semantics.specs.Bytes.{Bytes, hex}
 use Rattle.semantics.specs.Ty.{Ty, line}
 use Rattle.semantics.specs.Sheet.{Word, VAR, Head, variableOf, Role, plain, condition, answer, inner, Typing, constant, varType, element, slice as slicing, listing, mapping, calling, operator, unary, casing, membership, comprehension, Rule, silent, entering, typed, row, rule, roles, low, high, present, armRoles}
@@ -213,7 +215,7 @@ pub record StepAt (q : Typing) (p : Role) (k : Kept) (t : Ty) (m : Bytes) (s : B
   pub before : Before q k
   pub at : ChildAt k t s st n
   pub room : ChildRoom q k t s (st .len + n)
-  pub wide : 1024 ≤ length s
+  pub wide : typeLimit ≤ length s
   pub spelt : x ≡ map hex m
 
 pub record SomeStep (i r : ℕ) (s : Bytes) (st : St) (n : ℕ) (x : Bytes) : Type 0 where
@@ -266,7 +268,7 @@ abbrev pub RoomOf : Kept → Bytes → ℕ → Type 0
 RoomOf empty s e = Unit {0}
 RoomOf over s e = Unit {0}
 RoomOf (kept t) s e = Unit {0}
-RoomOf (both a b) s e = (e + 1024 * slots a b ≤ length s) × (8192 ≤ length s)
+RoomOf (both a b) s e = (e + typeLimit * slots a b ≤ length s) × (8192 ≤ length s)
 RoomOf (items e′) s e = Unit {0}
 RoomOf (last e′) s e = Unit {0}
 RoomOf (entries fs) s e = Unit {0}
@@ -305,7 +307,7 @@ pub record SpeltAs (name stop r : ℕ) : Type 0 where
 
 -- a constant of one letter
 abbrev pub LetterBy : ℕ → ℕ → Type 0
-LetterBy w r = (v : Word) (t : Ty) → w ≡ wordNo v → row v .rule ≡ typed (constant t) → (w ≡ 51 → ⊥) → r ∷ 44 ∷ [] ≡ line t
+LetterBy w r = (v : Word) (t : Ty) → w ≡ wordNo v → row v .rule ≡ typed (constant t) → (w ≡ 51 → ⊥) → r ∷ comma ∷ [] ≡ line t
 
 abbrev pub ConstantBy : ℕ → Bytes → Bytes → ℕ → Type 0
 ConstantBy w s s′ r = (v : Word) (t : Ty) → w ≡ wordNo v → row v .rule ≡ typed (constant t) → Returned s s′ t r

@@ -3,6 +3,8 @@ use mathlib.Core.Path.{_≡_}
 use mathlib.Core.List.{List, [], _∷_}
 use Prim.Native.Nat.{ℕ, suc, _+_, _-_, _*_, _<_, _≤_, _^_}
 use lib.ListN.{length, getD, take, drop}
+use Rattle.semantics.specs.Limits.{typeLimit}
+use Rattle.semantics.specs.Codes.{lineFeed, endRank}
 use Rattle.semantics.specs.Bytes.{Bytes, split}
 use Rattle.semantics.specs.Sheet.{Head, Place, AtExpression, silent, rule, rank, Want, at, arity}
 use Rattle.semantics.specs.Walk.{Env, Res, step, walk}
@@ -74,7 +76,7 @@ pub record ExprAsk (s : Bytes) (b : Binds) (h : Seen) (c : Cur) (depth : ℕ) (w
   pub at : ExprAt s h c depth
   pub env : Env
   pub bound : EnvAs s b env
-  pub room : 1024 * (depth + 40) ≤ length work
+  pub room : typeLimit * (depth + 40) ≤ length work
   pub count : Counting y (suc (length (at .tree .under)))
 
 abbrev pub ExprWalked : Bytes → Binds → Seen → Cur → ℕ → Bytes → Bytes → Bytes → Bytes → Tally → Walk → Type 0
@@ -99,7 +101,7 @@ LeafWalked s b h c work work′ out out′ y r = (depth : ℕ) → ExprWalked s 
 
 pub record AnyAt (s : Bytes) (k : Seen) (c : Cur) (depth : ℕ) : Type 0 where
   pub place : Place
-  pub inside : 3 < rank place
+  pub inside : endRank < rank place
   pub tree : TreeAt (at place depth) s c
   pub is : HeadIs s k (tree .head)
   pub next : k .next ≡ tree .next
@@ -108,7 +110,7 @@ pub record AnyAsk (s : Bytes) (b : Binds) (k : Seen) (c : Cur) (depth : ℕ) (wo
   pub at : AnyAt s k c depth
   pub env : Env
   pub bound : EnvAs s b env
-  pub room : 1024 * (depth + 40) ≤ length work
+  pub room : typeLimit * (depth + 40) ≤ length work
   pub count : Counting y (suc (length (at .tree .under)))
 
 abbrev pub AnyWalked : Bytes → Binds → Seen → Cur → ℕ → Bytes → Bytes → Bytes → Bytes → Tally → Walk → Type 0
@@ -119,7 +121,7 @@ AnyWalked s b k c depth work work′ out out′ y r =
 
 pub record PatternAt (s : Bytes) (c : Cur) (depth : ℕ) : Type 0 where
   pub place : Place
-  pub inside : 3 < rank place
+  pub inside : endRank < rank place
   pub tree : TreeAt (at place depth) s c
   pub passes : rule (tree .head) ≡ silent
 
@@ -127,7 +129,7 @@ pub record PatternAsk (s : Bytes) (b : Binds) (c : Cur) (depth : ℕ) (work : By
   pub at : PatternAt s c depth
   pub env : Env
   pub bound : EnvAs s b env
-  pub room : 1024 * (depth + 40) ≤ length work
+  pub room : typeLimit * (depth + 40) ≤ length work
   pub count : Counting y (suc (length (at .tree .under)))
 
 abbrev pub PatternWalked : Bytes → Binds → Cur → ℕ → Bytes → Bytes → Bytes → Bytes → Tally → Walk → Type 0
@@ -138,7 +140,7 @@ PatternWalked s b c depth work work′ out out′ y r =
 
 -- an entry's expression stands on the line behind it; any other line stands for itself
 pub record EntersAs (s : Bytes) (k : Seen) (c : Cur) (e : Seen) (d : Cur) : Type 0 where
-  pub entry : k .word ≡ 40 → ReadAs s (k .next) e (split 10 (drop (k .next) s)) × (d .at ≡ k .next) × (d .line .0 ≡ c .line .0 + 1)
+  pub entry : k .word ≡ 40 → ReadAs s (k .next) e (split lineFeed (drop (k .next) s)) × (d .at ≡ k .next) × (d .line .0 ≡ c .line .0 + 1)
   pub itself : (k .word ≡ 40 → ⊥) → (e ≡ k) × (d ≡ c)
 
 -- the answer of an expression

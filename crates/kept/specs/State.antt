@@ -5,6 +5,8 @@ use mathlib.Core.Option.{Option, none, some}
 use mathlib.Core.Bool.{true, false}
 use Prim.Native.Nat.{ℕ, _+_, _*_, _≤_}
 use lib.ListN.{length, take}
+use Rattle.semantics.specs.Limits.{typeLimit}
+use Rattle.semantics.specs.Codes.{comma, listLetter}
 use Rattle.semantics.specs.Bytes.{Bytes, hex}
 use Rattle.semantics.specs.Ty.{Ty, tList, tMap, Fields, line, regular, tooLarge}
 use Rattle.semantics.proofs.Regular.{Sorted}
@@ -18,7 +20,7 @@ use Rattle.kept.specs.declared.Keep.the-variants.{On, Large}
 
 -- `J,` and a type, or none yet
 abbrev pub listText : Option Ty → Bytes
-listText none = 74 ∷ 44 ∷ []
+listText none = listLetter ∷ comma ∷ []
 listText (some t) = line (tList t)
 
 -- the bytes at the front
@@ -129,7 +131,7 @@ ArmForm (arms ms) = Unit {0}
 -- a comprehension's `J,` and a child's type of n bytes behind it, in place of the one before
 pub record LastChild (t : Ty) (s : Bytes) (st : St) (n : ℕ) : Type 0 where
   pub len : st .len ≡ 2
-  pub head : take 2 s ≡ 74 ∷ 44 ∷ []
+  pub head : take 2 s ≡ listLetter ∷ comma ∷ []
   pub child : TypeAt s (st .len) (st .len + n) t
 
 -- ## After a child
@@ -157,20 +159,20 @@ ListKept s len r = (t : Ty) → TypeAt s 0 len (tList t) → KeepAs (unlessLarge
 
 -- `J,` at the front, and room for two bytes more
 pub record Headed (s : Bytes) : Type 0 where
-  pub head : take 2 s ≡ 74 ∷ 44 ∷ []
+  pub head : take 2 s ≡ listLetter ∷ comma ∷ []
   pub room : 4 ≤ length s
 
 -- room for the unification of an item with those before it
 abbrev pub ItemRoom : Option Ty → Ty → Bytes → ℕ → Type 0
 ItemRoom none t s e = Unit {0}
-ItemRoom (some u) t s e = e + 1024 * slots u t ≤ length s
+ItemRoom (some u) t s e = e + typeLimit * slots u t ≤ length s
 
 pub record SomeItem (s : Bytes) (st : St) (n : ℕ) : Type 0 where
   pub before : Option Ty
   pub ty : Ty
   pub at : ChildAt (items before) ty s st n
   pub room : ItemRoom before ty s (st .len + n)
-  pub wide : 1024 ≤ length s
+  pub wide : typeLimit ≤ length s
 
 abbrev pub ItemKept : Bytes → Bytes → St → ℕ → Keep → Type 0
 ItemKept s s′ st n r = (e : Option Ty) (t : Ty) → ChildAt (items e) t s st n → Keeps (keepItem (items e) t) s s′ r
@@ -183,7 +185,7 @@ pub record SomeEntry (s : Bytes) (st : St) (n : ℕ) (x : Bytes) : Type 0 where
   pub name : Bytes
   pub at : ChildAt (entries before) ty s st n
   pub spelt : x ≡ map hex name
-  pub wide : 1024 ≤ length s
+  pub wide : typeLimit ≤ length s
 
 abbrev pub EntryKept : Bytes → Bytes → St → ℕ → Bytes → Keep → Type 0
 EntryKept s s′ st n x r = (fs : Fields) (t : Ty) (m : Bytes) → ChildAt (entries fs) t s st n → x ≡ map hex m → Keeps (keepEntry (entries fs) m t) s s′ r

@@ -7,7 +7,8 @@ use Prim.Native.Nat.{ℕ, suc, zero, _+_, _-_, _*_, _/_, _%_, _≤_, min}
 use lib.Dec.{eqb}
 use lib.ListN.{length, getD}
 use lib.Seq.{slice}
-use Rattle.semantics.specs.Limits.{variableLimit}
+use Rattle.semantics.specs.Codes.{badlyWritten}
+use Rattle.semantics.specs.Limits.{variableLimit, boundLimit, signedShift}
 use Rattle.semantics.specs.Bytes.{Bytes, decimal, unhex}
 use Rattle.semantics.specs.Sheet.{Field, range, variable, optional, name, alias, bound, letter, signed, float, upto, count, Value, wrong, number, variableV, nameV, aliasV, dash?, within, named, lettered, signedOf, floatOf, boundOf, Head, variableOf}
 use Rattle.line.specs.declared.field.Val.{Val}
@@ -74,7 +75,7 @@ fieldsOf (suc n) r = fieldOf (r % 32) ∷ fieldsOf n (r / 32)
 
 -- a number as 64 bits keep it
 abbrev pub clip : ℕ → ℕ
-clip n = min n 18446744073709551615
+clip n = min n boundLimit
 
 abbrev pub whyOf : Value → ℕ
 whyOf (wrong c) = c
@@ -167,10 +168,10 @@ pub record Agrees (s : Bytes) (k : ℕ) (f : Fields) (h : Head) : Type 0 where
 
 -- a number by its sign, as `signedOf` reads it
 abbrev pub negativeOf : Option ℕ → Value
-negativeOf o = within 0 9223372036854775808 o (λ n. elim (eqb n 0) [ true ↦ wrong 3 | false ↦ number (9223372036854775808 - n) ])
+negativeOf o = within 0 signedShift o (λ n. elim (eqb n 0) [ true ↦ wrong badlyWritten | false ↦ number (signedShift - n) ])
 
 abbrev pub positiveOf : Option ℕ → Value
-positiveOf o = within 0 9223372036854775807 o (λ n. number (9223372036854775808 + n))
+positiveOf o = within 0 9223372036854775807 o (λ n. number (signedShift + n))
 
 -- what a name is to say, where it is one
 abbrev pub nameN : Value → ℕ → ℕ

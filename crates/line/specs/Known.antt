@@ -6,6 +6,7 @@ use mathlib.Core.Bool.{true}
 use Prim.Native.Nat.{ℕ, _+_, _≤_, _<_}
 use lib.ListN.{length, getD, drop}
 use lib.Seq.{slice}
+use Rattle.semantics.specs.Codes.{lineFeed, dash, digitZero}
 use Rattle.semantics.specs.Bytes.{Bytes, split, digits, unhex}
 use Rattle.semantics.specs.Sheet.{Head, num, variableOf, rank, place, ok, number, lettered}
 use Rattle.text.specs.Text.{some?}
@@ -18,7 +19,7 @@ use Rattle.line.specs.declared.known.Bound.{Bound}
 -- the line at p says the head h, and the next line starts at q
 pub record LineAt (s : Bytes) (p : ℕ) (h : Head) (q : ℕ) : Type 0 where
   pub text : Bytes
-  pub stands : split 10 (drop p s) ≡ text ∷ split 10 (drop q s)
+  pub stands : split lineFeed (drop p s) ≡ text ∷ split lineFeed (drop q s)
   pub says : lineSays text ≡ known (h .word) (ok h)
   pub on : p < q
   pub inside : q ≤ length s
@@ -29,7 +30,7 @@ pub record DigitsAt (s : Bytes) (at : ℕ) : Type 0 where
   pub value : ℕ
   pub from : at ≤ end
   pub inside : end < length s
-  pub stop : getD s end 0 < 48
+  pub stop : getD s end 0 < digitZero
   pub says : digits 0 (slice at end s) ≡ some value
   pub small : value < 18446744073709551616
 
@@ -41,8 +42,8 @@ pub record HighAt (s : Bytes) (at : ℕ) : Type 0 where
   pub end : ℕ
   pub from : at ≤ end
   pub inside : end < length s
-  pub stop : getD s end 0 < 45
-  pub high : (i : ℕ) → at ≤ i → i < end → 45 ≤ getD s i 0
+  pub stop : getD s end 0 < dash
+  pub high : (i : ℕ) → at ≤ i → i < end → dash ≤ getD s i 0
 
 -- ## A line read again
 
@@ -61,7 +62,7 @@ pub record FineBehind (s : Bytes) (end word : ℕ) : Type 0 where
 pub record PieceFine (s : Bytes) (at shape l : ℕ) : Type 0 where
   pub end : ℕ
   pub stood : Stood s at end
-  pub stop : getD s end 0 < 45
+  pub stop : getD s end 0 < dash
   pub fine : whyOf (valueAt (fieldOf shape) l (slice at end s)) ≡ 0
 
 -- a field of this shape is hexadecimal digits, kept by where they stand

@@ -7,6 +7,8 @@ use Prim.Native.Nat.{ℕ, suc, zero, _≤_, _<_, _/_, _%_}
 use lib.Dec.{eqb, leb}
 use lib.ListN.{length, getD, drop}
 use lib.Seq.{slice}
+use Rattle.semantics.specs.Limits.{boundLimit}
+use Rattle.semantics.specs.Codes.{lineFeed, comma, badlyWritten, valueKind}
 use Rattle.semantics.specs.Bytes.{Bytes, split, unhex}
 use Rattle.semantics.specs.Sheet.{Word, Field, range, variable, optional, name, alias, bound, letter, signed, float, words, wordIn, row, rank, Head, num, variableOf, Read, bad, ok, fill, bare, Want, fits, beyond, andThen}
 use Rattle.line.specs.Arrays.{slots}
@@ -18,7 +20,7 @@ use Rattle.line.specs.declared.line.Head.{Head as Seen}
 
 -- the pieces of a line from p on; none where p is past its end
 unfoldable pub pieces : Bytes → ℕ → List Bytes
-pieces s p = elim (leb p (length s)) [ true ↦ split 44 (drop p s) | false ↦ [] ]
+pieces s p = elim (leb p (length s)) [ true ↦ split comma (drop p s) | false ↦ [] ]
 
 -- what is kept of the fields is what they say
 abbrev pub FilledAs : Bytes → ℕ → Read → Filled → Type 0
@@ -34,19 +36,19 @@ pub data Plain : Type 0 where
 
 unfoldable pub wordSays : Option Word → List Bytes → Plain
 wordSays none fs = unknown
-wordSays (some v) fs = known v (elim (eqb (length fs) (length (row v .fields))) [ true ↦ fill (bare v) (row v .fields) fs | false ↦ bad 3 ])
+wordSays (some v) fs = known v (elim (eqb (length fs) (length (row v .fields))) [ true ↦ fill (bare v) (row v .fields) fs | false ↦ bad badlyWritten ])
 
 unfoldable pub piecesSay : List Bytes → Plain
 piecesSay [] = unknown
 piecesSay (x ∷ fs) = wordSays (wordIn x words) fs
 
 unfoldable pub lineSays : Bytes → Plain
-lineSays l = piecesSay (split 44 l)
+lineSays l = piecesSay (split comma l)
 
 -- at a place: the word allowed there, then the fields, then what is beyond them
 unfoldable pub placed : Want → Plain → Read
-placed w unknown = bad 3
-placed w (known v r) = elim (fits w (rank (row v .place))) [ true ↦ andThen r (beyond w) | false ↦ bad 3 ]
+placed w unknown = bad badlyWritten
+placed w (known v r) = elim (fits w (rank (row v .place))) [ true ↦ andThen r (beyond w) | false ↦ bad badlyWritten ]
 
 -- ## The line as the code reads it
 
@@ -63,9 +65,9 @@ most (alias ∷ fs) zero = 1
 most (alias ∷ fs) (suc i) = most fs i
 most (bound ∷ fs) zero = 18446744073709551616
 most (bound ∷ fs) (suc i) = most fs i
-most (letter ∷ fs) zero = 3
+most (letter ∷ fs) zero = valueKind
 most (letter ∷ fs) (suc i) = most fs i
-most (signed ∷ fs) zero = 18446744073709551615
+most (signed ∷ fs) zero = boundLimit
 most (signed ∷ fs) (suc i) = most fs i
 
 abbrev pub Ranged : Head → Type 0
@@ -99,7 +101,7 @@ SaysAs s r (known v (ok h)) = (v ≡ h .word) × HeadIs s r h
 abbrev pub ReadAs : Bytes → ℕ → Seen → List Bytes → Type 0
 ReadAs s at r [] = r .word ≡ 0
 ReadAs s at r (l ∷ []) = r .word ≡ 0
-ReadAs s at r (l ∷ l′ ∷ ls) = (l′ ∷ ls ≡ split 10 (drop (r .next) s)) × (at < r .next) × (r .next ≤ length s) × SaysAs s r (lineSays l)
+ReadAs s at r (l ∷ l′ ∷ ls) = (l′ ∷ ls ≡ split lineFeed (drop (r .next) s)) × (at < r .next) × (r .next ≤ length s) × SaysAs s r (lineSays l)
 
 abbrev pub seenAs : ℕ → ℕ → ℕ → Fields → Seen
 seenAs w y n f = record { word = w; why = y; next = n; var = f .var; num = f .num; flag = f .flag; count = f .count; name = f .name; stop = f .stop }

@@ -3,6 +3,7 @@ use mathlib.Core.Path.{_≡_}
 use mathlib.Core.List.{List, [], _∷_}
 use Prim.Native.Nat.{ℕ, _+_, _≤_, _<_}
 use lib.ListN.{length, getD, drop}
+use Rattle.semantics.specs.Codes.{lineFeed}
 use Rattle.semantics.specs.Bytes.{Bytes, split}
 use Rattle.text.specs.Text.{Ends}
 use Rattle.line.specs.Rows.{wordNo}
@@ -24,11 +25,11 @@ FirstWord word (l ∷ l′ ∷ ls) = WordIs word (lineSays l)
 pub record OpensAs (s : Bytes) (at : ℕ) (r : Opening) : Type 0 where
   pub on : at ≤ r .from
   pub within : r .from ≤ length s
-  pub clear : (i : ℕ) → at ≤ i → i < r .from → getD s i 0 ≡ 10 → ⊥
-  pub word : FirstWord (r .word) (split 10 (drop at s))
+  pub clear : (i : ℕ) → at ≤ i → i < r .from → getD s i 0 ≡ lineFeed → ⊥
+  pub word : FirstWord (r .word) (split lineFeed (drop at s))
 
 -- the line of which `from` is a place ends before r
 pub record BehindAs (s : Bytes) (from r : ℕ) : Type 0 where
   pub end : ℕ
-  pub ends : Ends 10 s from end
+  pub ends : Ends lineFeed s from end
   pub next : r ≡ end + 1

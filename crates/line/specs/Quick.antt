@@ -6,6 +6,7 @@ use mathlib.Core.Bool.{Bool, true}
 use Prim.Native.Nat.{ℕ, _+_, _*_, _≤_, _<_}
 use lib.ListN.{length, getD, drop}
 use lib.Seq.{slice}
+use Rattle.semantics.specs.Codes.{lineFeed, comma, dash, digitZero}
 use Rattle.semantics.specs.Bytes.{Bytes, split, digits, decimal, unhex}
 use Rattle.semantics.specs.Sheet.{Word, words, dash?}
 use Rattle.text.specs.Text.{some?}
@@ -21,7 +22,7 @@ use Rattle.line.specs.declared.line.Head.{Head as Seen}
 
 -- no byte from a to b ends a field or a line
 abbrev pub Clean : Bytes → ℕ → ℕ → Type 0
-Clean s a b = (i : ℕ) → a ≤ i → i < b → (getD s i 0 ≡ 44 → ⊥) × (getD s i 0 ≡ 10 → ⊥)
+Clean s a b = (i : ℕ) → a ≤ i → i < b → (getD s i 0 ≡ comma → ⊥) × (getD s i 0 ≡ lineFeed → ⊥)
 
 -- from `at` to `end`, inside s, stands a piece or the front of one
 pub record Stood (s : Bytes) (at end : ℕ) : Type 0 where
@@ -36,7 +37,7 @@ pub record DigitsTo (s : Bytes) (at i n : ℕ) : Type 0 where
   pub on : at < i
   pub within : i ≤ length s
   pub clean : Clean s at i
-  pub led : getD s at 0 ≡ 48 → ⊥
+  pub led : getD s at 0 ≡ digitZero → ⊥
   pub same : (e : ℕ) → i ≤ e → e ≤ length s → digits 0 (slice at e s) ≡ digits n (slice i e s)
 
 abbrev pub NumberAs : Bytes → ℕ → Got → Type 0
@@ -68,7 +69,7 @@ Dashed shape = (l : ℕ) (t : Bytes) → true ≡ dash? t → record { why = 0; 
 
 -- an optional variable that is not `-`
 abbrev pub OptionalAs : Bytes → ℕ → ℕ → Got → Type 0
-OptionalAs s at l r = (getD s at 0 ≡ 45 → ⊥) → GotAs s at 8 l r
+OptionalAs s at l r = (getD s at 0 ≡ dash → ⊥) → GotAs s at 8 l r
 
 -- ## A line
 
@@ -97,10 +98,10 @@ abbrev pub NameRow : ℕ → Type 0
 NameRow word = (0 < word) × (289 ≡ getD shapes word 0)
 
 abbrev pub QuickAs : Bytes → ℕ → Seen → Type 0
-QuickAs s at r = 0 < r .word → ReadAs s at r (split 10 (drop at s))
+QuickAs s at r = 0 < r .word → ReadAs s at r (split lineFeed (drop at s))
 
 abbrev pub QuickBehind : Bytes → ℕ → ℕ → Seen → Type 0
 QuickBehind s end word r = (at : ℕ) → WordAt s at end word → QuickAs s at r
 
 abbrev pub ClosedAs : Bytes → ℕ → ℕ → Fields → Seen → Type 0
-ClosedAs s end word f r = 0 < r .word → (getD s end 0 ≡ 10) × (r ≡ seenAs word 0 (end + 1) f)
+ClosedAs s end word f r = 0 < r .word → (getD s end 0 ≡ lineFeed) × (r ≡ seenAs word 0 (end + 1) f)

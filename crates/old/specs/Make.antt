@@ -6,7 +6,8 @@ use mathlib.Core.Option.{some}
 use mathlib.Core.Bool.{Bool, true, false, cond}
 use lib.Dec.{eqb}
 use lib.ListN.{length, take, drop, getD}
-use Rattle.semantics.specs.Limits.{nestingLimit}
+use Rattle.semantics.specs.Codes.{comma as commaByte, listLetter, mapLetter, unionLetter}
+use Rattle.semantics.specs.Limits.{nestingLimit, typeLimit}
 use Rattle.semantics.specs.Bytes.{Bytes, hex}
 use Rattle.semantics.specs.Ty.{tUnknown, Ty, base, tList, tMap, tNode, Fields, ∅ᶠ, nameTo, namesTo, lineTo, line, nesting, tooLarge, inserts, opened, joined, setField, insertName, insertNames, ascending}
 use Rattle.semantics.proofs.Named.{Name, Names}
@@ -52,7 +53,7 @@ pub record SamePlace (s : Bytes) (at : ℕ) : Type 0 where
   pub ty : Ty
   pub rest : Bytes
   pub is : drop at s ≡ lineTo ty rest
-  pub small : length (line ty) ≤ 1024
+  pub small : length (line ty) ≤ typeLimit
 
 abbrev pub Copies : Bytes → Bytes → Bytes → ℕ → Answer → Type 0
 Copies s w w′ at r = (t : Ty) (rest : Bytes) → drop at s ≡ lineTo t rest → made t ≡ t → tooLarge t ≡ false → MadeAs w w′ (at + length (line t)) (made t) r
@@ -63,7 +64,7 @@ Copies s w w′ at r = (t : Ty) (rest : Bytes) → drop at s ≡ lineTo t rest �
 pub record StartIn (w : Bytes) (lo hi r : ℕ) : Type 0 where
   pub from : lo ≤ r
   pub inside : r < hi
-  pub comma : lo < r → getD w (r - 1) 0 ≡ 44
+  pub comma : lo < r → getD w (r - 1) 0 ≡ commaByte
 
 -- the node type of ascending labels stands at the front
 pub record LabelsFront (w : Bytes) (n : ℕ) (ls : List Bytes) : Type 0 where
@@ -76,7 +77,7 @@ pub record SomeLabel (w : Bytes) (n : ℕ) (x : Bytes) : Type 0 where
   pub name : Bytes
   pub spelt : x ≡ map hex name
   pub short : length name ≤ 510
-  pub few : n ≤ 1024
+  pub few : n ≤ typeLimit
   pub room : 3072 ≤ length w
 
 -- in the line l of the labels ls: the label m is new at p, or there already
@@ -109,13 +110,13 @@ pub data Acc : Type 0 where
   united : List Ty → Acc
 
 abbrev pub accKind : Acc → ℕ
-accKind opening = 74
-accKind (listed u) = 74
-accKind (mapped fs) = 75
-accKind (united ms) = 79
+accKind opening = listLetter
+accKind (listed u) = listLetter
+accKind (mapped fs) = mapLetter
+accKind (united ms) = unionLetter
 
 abbrev pub AccAt : Acc → Bytes → ℕ → Type 0
-AccAt opening w n = (n ≡ 2) × (2 ≤ length w) × (take 2 w ≡ 74 ∷ 44 ∷ [])
+AccAt opening w n = (n ≡ 2) × (2 ≤ length w) × (take 2 w ≡ listLetter ∷ commaByte ∷ [])
 AccAt (listed u) w n = TypeAt w 0 n (tList u)
 AccAt (mapped fs) w n = TypeAt w 0 n (tMap fs)
 AccAt (united ms) w n = TypesAt w 0 n ms
@@ -148,7 +149,7 @@ accType (united ms) = joined ms
 
 -- before the first inner type of a type of kind k
 unfoldable pub startOf : ℕ → Acc
-startOf k = cond (eqb k 74) opening (cond (eqb k 75) (mapped ∅ᶠ) (united []))
+startOf k = cond (eqb k listLetter) opening (cond (eqb k mapLetter) (mapped ∅ᶠ) (united []))
 
 pub record StartedAs (w w′ : Bytes) (k r : ℕ) : Type 0 where
   pub at : AccAt (startOf k) w′ r
@@ -158,12 +159,12 @@ pub record StartedAs (w w′ : Bytes) (k r : ℕ) : Type 0 where
 -- the inner type u stands behind it, of a map under the name m at q of the text
 pub record Join (s : Bytes) (k q : ℕ) (w : Bytes) (n end : ℕ) (a : Acc) (m : Bytes) (u : Ty) : Type 0 where
   pub kind : k ≡ accKind a
-  pub first : k ≡ 74 → a ≡ opening
+  pub first : k ≡ listLetter → a ≡ opening
   pub at : AccAt a w n
   pub new : TypeAt w n end u
   pub rest : Bytes
-  pub lead : k ≡ 75 → drop q s ≡ nameTo m rest
-  pub room : 1024 ≤ length w
+  pub lead : k ≡ mapLetter → drop q s ≡ nameTo m rest
+  pub room : typeLimit ≤ length w
   pub small : accLarge a ≡ false
 
 pub record SomeJoin (s : Bytes) (k q : ℕ) (w : Bytes) (n end : ℕ) : Type 0 where

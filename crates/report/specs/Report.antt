@@ -7,6 +7,7 @@ use Prim.Native.Nat.{ℕ, _+_, _≤_}
 use lib.Dec.{eqb}
 use lib.ListN.{length}
 use lib.Seq.{sets}
+use Rattle.semantics.specs.Codes.{lineFeed, comma}
 use Rattle.semantics.specs.Bytes.{Bytes, text, shown}
 use Rattle.semantics.specs.Ty.{Ty}
 use Rattle.semantics.specs.Walk.{Fault, E2009, E2010, E2011, E2013, Top, open?, numeric}
@@ -18,11 +19,11 @@ use Rattle.report.specs.declared.Tally.{Tally}
 -- the lines of some faults
 unfoldable pub faultsText : List Fault → Bytes
 faultsText [] = []
-faultsText (f ∷ fs) = faultLine f ++ (10 ∷ faultsText fs)
+faultsText (f ∷ fs) = faultLine f ++ (lineFeed ∷ faultsText fs)
 
 -- a type line of the report
 abbrev pub typeText : Ty → Bytes
-typeText t = topLine t ++ (10 ∷ [])
+typeText t = topLine t ++ (lineFeed ∷ [])
 
 -- the lines of some top expressions: of each its faults and its type
 unfoldable pub topsText : List Top → Bytes
@@ -31,7 +32,7 @@ topsText (t ∷ ts) = faultsText (t .faults) ++ (typeText (t .ty) ++ topsText ts
 
 -- a line of a head and two numbers
 abbrev pub numbersText : Bytes → ℕ → ℕ → Bytes
-numbersText s n m = s ++ (shown n ++ (44 ∷ (shown m ++ (10 ∷ []))))
+numbersText s n m = s ++ (shown n ++ (comma ∷ (shown m ++ (lineFeed ∷ []))))
 
 -- the last line, by its two counts
 abbrev pub endText : ℕ → ℕ → Bytes
@@ -39,7 +40,7 @@ endText n m = numbersText (text "end,") n m
 
 -- a fault's code and a comma, which the line has behind `F,`
 abbrev pub codeText : ℕ → Bytes
-codeText c = shown c ++ (44 ∷ [])
+codeText c = shown c ++ (comma ∷ [])
 
 -- these bytes are behind what was filled, and no fault was counted
 pub record Appends (s : Bytes) (out out′ : Bytes) (fill fill′ : ℕ) : Type 0 where

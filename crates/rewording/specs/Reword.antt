@@ -12,6 +12,7 @@ use mathlib.Core.Logic.{_⊎_}
 use Prim.Native.Nat.{ℕ, suc, _+_, _*_, _≤_}
 use lib.ListN.{length, take}
 use lib.Dec.{eqb, ltb}
+use Rattle.semantics.specs.Codes.{lineFeed, faultLetter, typeLetter}
 use Rattle.semantics.specs.Limits.{sheetLimit, depthLimit}
 use Rattle.semantics.specs.Bytes.{Bytes, same, split}
 use Rattle.semantics.specs.Ty.{Ty, tList, tMap, tUnion, Tys, _⊕_, Fields, field, members, line, ascending, union?}
@@ -149,7 +150,7 @@ pub record Reports (s x : Bytes) : Type 0 where
 
 -- the pieces of a report between its LFs; each but the last is a line
 abbrev pub pieces : Bytes → List Bytes
-pieces x = split 10 x
+pieces x = split lineFeed x
 
 abbrev pub begins : ℕ → Bytes → Bool
 begins c [] = false
@@ -158,7 +159,7 @@ begins c (x ∷ xs) = eqb x c
 -- the type lines in order
 unfoldable pub typeLines : List Bytes → List Bytes
 typeLines [] = []
-typeLines (l ∷ ls) = cond (begins 84 l) (l ∷ typeLines ls) (typeLines ls)
+typeLines (l ∷ ls) = cond (begins typeLetter l) (l ∷ typeLines ls) (typeLines ls)
 
 -- "The fault lines before a type line are the F lines since the T line before it, or since the start"; a last group for those after
 -- the last T line
@@ -168,7 +169,7 @@ into-first l (g ∷ gs) = (l ∷ g) ∷ gs
 
 unfoldable pub faultGroups : List Bytes → List (List Bytes)
 faultGroups [] = [] ∷ []
-faultGroups (l ∷ ls) = let gs = faultGroups ls in cond (begins 84 l) ([] ∷ gs) (cond (begins 70 l) (into-first l gs) gs)
+faultGroups (l ∷ ls) = let gs = faultGroups ls in cond (begins typeLetter l) ([] ∷ gs) (cond (begins faultLetter l) (into-first l gs) gs)
 
 -- the last line: the last piece that a LF ends
 unfoldable pub lastLine : List Bytes → Bytes

@@ -5,6 +5,7 @@ use mathlib.Core.Bool.{Bool, true, false, cond, _&&_}
 use Prim.Native.Nat.{ℕ, _+_}
 use Prim.Native.String.{String}
 use lib.Dec.{leb}
+use Rattle.semantics.specs.Codes.{capitalA, capitalZ, caseDistance}
 use Rattle.semantics.specs.Bytes.{Bytes, text, same, unpaired}
 use Rattle.semantics.specs.Ty.{Base, tAny, tNull, tBool, tInt, tFloat, tNum, tString, tDate, tDatetime, tPath, tUnknown, Ty, base, tList, tMap, tNode, tRelationship, tUnion}
 
@@ -44,7 +45,7 @@ builtins = ID ∷ SIZE ∷ HEAD ∷ TAIL ∷ LAST ∷ KEYS ∷ VALUES ∷ []
 
 -- `lookup`: the first of this name, ignoring ASCII case; the table's names are lower-case
 abbrev pub lower : ℕ → ℕ
-lower c = cond (leb 65 c && leb c 90) (c + 32) c
+lower c = cond (leb capitalA c && leb c capitalZ) (c + caseDistance) c
 
 -- a name's bytes in lower case
 unfoldable pub folded : Bytes → Bytes

@@ -6,6 +6,7 @@ use Prim.Native.Nat.{ℕ, suc, zero, _+_, _*_, _-_, _/_, _%_, compare, Ordering,
 use Prim.Native.String.{String, [] as []ˢ, _∷_ as _∷ˢ_}
 use Prim.Native.Char.{code}
 use lib.Dec.{eqb, ltb, leb, isEq}
+use Rattle.semantics.specs.Codes.{lineFeed, digitZero, digitNine, decimalDigits, smallA, smallF, smallAMinusTen}
 
 abbrev pub Bytes : Type 0
 Bytes = List ℕ
@@ -37,37 +38,37 @@ split c (x ∷ xs) = elim (eqb x c) [ true ↦ [] ∷ split c xs | false ↦ fro
 -- lines, each ended by LF
 unfoldable pub unlines : List Bytes → Bytes
 unlines [] = []
-unlines (l ∷ ls) = l ++ (10 ∷ unlines ls)
+unlines (l ∷ ls) = l ++ (lineFeed ∷ unlines ls)
 
 -- a decimal number without leading zeros
 abbrev pub digit? : ℕ → Bool
-digit? c = leb 48 c && leb c 57
+digit? c = leb digitZero c && leb c digitNine
 
 unfoldable pub digits : ℕ → Bytes → Option ℕ
 digits a [] = some a
-digits a (c ∷ cs) = elim (digit? c) [ true ↦ digits (a * 10 + (c - 48)) cs | false ↦ none ]
+digits a (c ∷ cs) = elim (digit? c) [ true ↦ digits (a * 10 + (c - digitZero)) cs | false ↦ none ]
 
 unfoldable pub decimal : Bytes → Option ℕ
 decimal [] = none
 decimal (c ∷ []) = digits 0 (c ∷ [])
-decimal (c ∷ d ∷ cs) = elim (eqb c 48) [ true ↦ none | false ↦ digits 0 (c ∷ d ∷ cs) ]
+decimal (c ∷ d ∷ cs) = elim (eqb c digitZero) [ true ↦ none | false ↦ digits 0 (c ∷ d ∷ cs) ]
 
 -- a number in decimal: the first argument bounds the digits
 unfoldable pub shownIn : ℕ → ℕ → Bytes → Bytes
 shownIn zero n r = r
-shownIn (suc k) n r = elim (ltb n 10) [ true ↦ (48 + n) ∷ r | false ↦ shownIn k (n / 10) ((48 + n % 10) ∷ r) ]
+shownIn (suc k) n r = elim (ltb n 10) [ true ↦ (digitZero + n) ∷ r | false ↦ shownIn k (n / 10) ((digitZero + n % 10) ∷ r) ]
 
 unfoldable pub shown : ℕ → Bytes
-shown n = shownIn 20 n []
+shown n = shownIn decimalDigits n []
 
 -- a name is kept as its hexadecimal digits, two for each byte; `hex` writes a digit, `unhex` reads them all
 unfoldable pub hex : ℕ → ℕ
-hex d = cond (ltb d 10) (48 + d) (87 + d)
+hex d = cond (ltb d 10) (digitZero + d) (smallAMinusTen + d)
 
 unfoldable pub unhex : Bytes → Option Bytes
 unhex [] = some []
 unhex (c ∷ cs) =
-    elim (digit? c) [ true ↦ more (c - 48) (unhex cs) | false ↦ elim (leb 97 c && leb c 102) [ true ↦ more (c - 87) (unhex cs) | false ↦ none ] ]
+    elim (digit? c) [ true ↦ more (c - digitZero) (unhex cs) | false ↦ elim (leb smallA c && leb c smallF) [ true ↦ more (c - smallAMinusTen) (unhex cs) | false ↦ none ] ]
   where
     more : ℕ → Option Bytes → Option Bytes
     more d none = none

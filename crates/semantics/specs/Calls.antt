@@ -6,6 +6,7 @@ use Prim.Native.Nat.{ℕ, _+_}
 use lib.ListN.{length, drop, replicate}
 use lib.Dec.{eqb, ltb}
 use Rattle.semantics.specs.Limits.{sheetLimit, depthLimit, workSize, unifyOutput}
+use Rattle.semantics.specs.Codes.{lineFeed, comma, faultLetter, typeLetter, typeTooLarge, outputTooShort, noTypeLine, mismatched}
 use Rattle.semantics.specs.Bytes.{Bytes, text, unlines, shown}
 use Rattle.semantics.specs.Ty.{Base, tAny, tNull, tBool, tInt, tFloat, tNum, tString, tDate, tDatetime, tPath, tUnknown, Ty, base, tList, tMap, tNode, tRelationship, tUnion, line, tooLarge, typeLine}
 use Rattle.semantics.specs.Unify.{Answer, agreed, mismatch, Unified, unify}
@@ -41,22 +42,22 @@ unfoldable pub faultText : Fault → Bytes
 faultText (E2009 t) = text "2009," ++ typeName t
 faultText (E2010 t) = text "2010," ++ typeName t
 faultText (E2011 t) = text "2011," ++ typeName t
-faultText (E2012 a e) = text "2012," ++ (typeName a ++ (44 ∷ typeName e))
+faultText (E2012 a e) = text "2012," ++ (typeName a ++ (comma ∷ typeName e))
 faultText (E2013 t) = text "2013," ++ typeName t
-faultText (E5012 b t p) = text "5012," ++ (signature b .name ++ (44 ∷ (typeName t ++ (44 ∷ describe p))))
+faultText (E5012 b t p) = text "5012," ++ (signature b .name ++ (comma ∷ (typeName t ++ (comma ∷ describe p))))
 
 unfoldable pub faultLine : Fault → Bytes
-faultLine f = 70 ∷ 44 ∷ faultText f
+faultLine f = faultLetter ∷ comma ∷ faultText f
 
 unfoldable pub topLine : Ty → Bytes
-topLine t = 84 ∷ 44 ∷ line t
+topLine t = typeLetter ∷ comma ∷ line t
 
 unfoldable pub faultCount : List Top → ℕ
 faultCount [] = 0
 faultCount (t ∷ ts) = length (t .faults) + faultCount ts
 
 unfoldable pub endLine : List Top → Bytes
-endLine ts = text "end," ++ (shown (length ts) ++ (44 ∷ shown (faultCount ts)))
+endLine ts = text "end," ++ (shown (length ts) ++ (comma ∷ shown (faultCount ts)))
 
 -- the faults before each type line, the type lines, and then the last line
 unfoldable pub topLines : List Top → List Bytes → List Bytes
@@ -82,7 +83,7 @@ firstLarge ((n, t) ∷ ts) = elim (tooLarge t) [ true ↦ some n | false ↦ fir
 
 unfoldable pub limited : Option ℕ → List Head → Outcome
 limited none hs = accepted (report (typing hs))
-limited (some n) hs = refusal 6 n
+limited (some n) hs = refusal typeTooLarge n
 
 unfoldable pub judged : Sheet → Outcome
 judged (refused c n) = refusal c n
@@ -95,12 +96,12 @@ outcome s = judged (sheet depthLimit s)
 
 -- the line of a refusal
 unfoldable pub refusedText : ℕ → ℕ → Bytes
-refusedText c n = text "refused," ++ (shown c ++ (44 ∷ (shown n ++ (10 ∷ []))))
+refusedText c n = text "refused," ++ (shown c ++ (comma ∷ (shown n ++ (lineFeed ∷ []))))
 
 -- of an outcome, with so much room for a report
 unfoldable pub outcomeText : ℕ → Outcome → Bytes
 outcomeText room (refusal c n) = refusedText c n
-outcomeText room (accepted s) = elim (ltb room (length s)) [ true ↦ refusedText 7 0 | false ↦ s ]
+outcomeText room (accepted s) = elim (ltb room (length s)) [ true ↦ refusedText outputTooShort 0 | false ↦ s ]
 
 -- of a sheet
 unfoldable pub sheetText : ℕ → Bytes → Bytes
@@ -136,11 +137,11 @@ answered s work out = record { number = 0; first = length s; second = 0; work = 
 
 -- cause 9: the expected text and then the actual one
 abbrev pub parted : Bytes → Bytes → Bytes → Bytes → Settled
-parted a b work out = record { number = 9; first = length a; second = length b; work = zeros work; out = written (a ++ b) out }
+parted a b work out = record { number = mismatched; first = length a; second = length b; work = zeros work; out = written (a ++ b) out }
 
 unfoldable pub settled : Outcome → Bytes → Bytes → Settled
 settled (refusal c n) work out = cleared c n work out
-settled (accepted s) work out = elim (ltb (length out) (length s)) [ true ↦ cleared 7 0 work out | false ↦ answered s work out ]
+settled (accepted s) work out = elim (ltb (length out) (length s)) [ true ↦ cleared outputTooShort 0 work out | false ↦ answered s work out ]
 
 -- order for a sheet: 1, 2, the whole sheet read, 6, 7
 unfoldable pub sheetCall : Bytes → Bytes → Bytes → Settled
@@ -159,11 +160,11 @@ unifyAnswer (agreed t) work out = answered (line t) work out
 unifyAnswer (mismatch a b) work out = parted (line a) (line b) work out
 
 unfoldable pub unifyTypes : Option Ty → Option Ty → Bytes → Bytes → Settled
-unifyTypes none b work out = cleared 8 1 work out
-unifyTypes (some a) none work out = cleared 8 2 work out
+unifyTypes none b work out = cleared noTypeLine 1 work out
+unifyTypes (some a) none work out = cleared noTypeLine 2 work out
 unifyTypes (some a) (some b) work out =
     let u = unify a b in
-    elim (anyLarge (u .tests)) [ true ↦ cleared 6 0 work out | false ↦ unifyAnswer (u .answer) work out ]
+    elim (anyLarge (u .tests)) [ true ↦ cleared typeTooLarge 0 work out | false ↦ unifyAnswer (u .answer) work out ]
 
 -- order for `unify`: 2, 7, 8, then 6 or 9
 unfoldable pub unifyCall : Bytes → Bytes → Bytes → Bytes → Settled

@@ -1,4 +1,5 @@
 pub mod Limits
+pub mod Codes
 pub mod Bytes
 pub mod Ty
 pub mod Unify

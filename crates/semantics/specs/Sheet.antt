@@ -7,6 +7,7 @@ use Prim.Native.String.{String}
 use lib.ListN.{length, getD, replicate}
 use lib.Dec.{eqb, ltb, leb}
 use Rattle.semantics.specs.Limits.{nameLimit, countLimit, variableLimit, boundLimit, signedShift}
+use Rattle.semantics.specs.Codes.{lineFeed, comma, dash, floatDigits, nodeByte, relationshipByte, pathByte, valueByte, nodeKind, relationshipKind, pathKind, valueKind, firstRank, bindingRank, clauseRank, endRank, expressionRank, badlyWritten, outOfRange, tooDeep}
 use Rattle.semantics.specs.Bytes.{Bytes, text, same, split, decimal, unhex}
 use Rattle.semantics.specs.Ty.{tAny, tNull, tBool, tInt, tFloat, tString, tUnknown, Ty, base, tMap, ∅ᶠ}
 
@@ -215,47 +216,47 @@ pub data Value : Type 0 where
   nameV aliasV : Bytes → Value
 
 abbrev pub dash? : Bytes → Bool
-dash? s = same s (45 ∷ [])
+dash? s = same s (dash ∷ [])
 
 -- a number of a range: well written and outside it is 4
 unfoldable pub within : ℕ → ℕ → Option ℕ → (ℕ → Value) → Value
-within l m none f = wrong 3
-within l m (some n) f = elim (leb l n && leb n m) [ true ↦ f n | false ↦ wrong 4 ]
+within l m none f = wrong badlyWritten
+within l m (some n) f = elim (leb l n && leb n m) [ true ↦ f n | false ↦ wrong outOfRange ]
 
 -- a name: two digits a byte; too long is 4
 unfoldable pub named : Option Bytes → (Bytes → Value) → Value
-named none f = wrong 3
-named (some ds) f = elim (eqb (length ds % 2) 0) [ true ↦ elim (leb (length ds) (2 * nameLimit)) [ true ↦ f ds | false ↦ wrong 4 ] | false ↦ wrong 3 ]
+named none f = wrong badlyWritten
+named (some ds) f = elim (eqb (length ds % 2) 0) [ true ↦ elim (leb (length ds) (2 * nameLimit)) [ true ↦ f ds | false ↦ wrong outOfRange ] | false ↦ wrong badlyWritten ]
 
 -- the letter of a binding as a number: N 0, R 1, P 2, V 3
 unfoldable pub lettered : Bytes → Value
-lettered [] = wrong 3
+lettered [] = wrong badlyWritten
 lettered (c ∷ []) =
-    elim (eqb c 78) [
-      | true ↦ number 0
-      | false ↦ elim (eqb c 82) [ true ↦ number 1 | false ↦ elim (eqb c 80) [ true ↦ number 2 | false ↦ elim (eqb c 86) [ true ↦ number 3 | false ↦ wrong 3 ] ] ]
+    elim (eqb c nodeByte) [
+      | true ↦ number nodeKind
+      | false ↦ elim (eqb c relationshipByte) [ true ↦ number relationshipKind | false ↦ elim (eqb c pathByte) [ true ↦ number pathKind | false ↦ elim (eqb c valueByte) [ true ↦ number valueKind | false ↦ wrong badlyWritten ] ] ]
     ]
-lettered (c ∷ d ∷ cs) = wrong 3
+lettered (c ∷ d ∷ cs) = wrong badlyWritten
 
 -- a signed number, never `-0`, shifted so that the least is 0
 unfoldable pub signedOf : Bytes → Value
-signedOf [] = wrong 3
+signedOf [] = wrong badlyWritten
 signedOf (c ∷ cs) =
-    elim (eqb c 45) [
-      | true ↦ within 0 signedShift (decimal cs) (λ n. elim (eqb n 0) [ true ↦ wrong 3 | false ↦ number (signedShift - n) ])
+    elim (eqb c dash) [
+      | true ↦ within 0 signedShift (decimal cs) (λ n. elim (eqb n 0) [ true ↦ wrong badlyWritten | false ↦ number (signedShift - n) ])
       | false ↦ within 0 (signedShift - 1) (decimal (c ∷ cs)) (λ n. number (signedShift + n))
     ]
 
 unfoldable pub floatOf : Option Bytes → Value
-floatOf none = wrong 3
-floatOf (some ds) = elim (eqb (length ds) 16) [ true ↦ nameV ds | false ↦ wrong 3 ]
+floatOf none = wrong badlyWritten
+floatOf (some ds) = elim (eqb (length ds) floatDigits) [ true ↦ nameV ds | false ↦ wrong badlyWritten ]
 
 -- a bound: with L 0, which is the second number of its line, only `-`
 unfoldable pub boundOf : ℕ → Bytes → Value
 boundOf l s =
     elim (dash? s) [
       | true ↦ number 0
-      | false ↦ elim (eqb l 0) [ true ↦ wrong 3 | false ↦ within 0 boundLimit (decimal s) (λ n. number (suc n)) ]
+      | false ↦ elim (eqb l 0) [ true ↦ wrong badlyWritten | false ↦ within 0 boundLimit (decimal s) (λ n. number (suc n)) ]
     ]
 
 -- a field, after the numbers of its line so far
@@ -287,8 +288,8 @@ into h (aliasV s) f = f (record { word = h .word; var = h .var; nums = h .nums +
 -- the fields left to right: the first that is refused decides; a wrong count is found before any field is read
 unfoldable pub fill : Head → List Field → List Bytes → Read
 fill h [] [] = ok h
-fill h [] (x ∷ xs) = bad 3
-fill h (f ∷ fs) [] = bad 3
+fill h [] (x ∷ xs) = bad badlyWritten
+fill h (f ∷ fs) [] = bad badlyWritten
 fill h (f ∷ fs) (x ∷ xs) = into h (value f (h .nums) x) (λ k. fill k fs xs)
 
 abbrev pub bare : Word → Head
@@ -318,9 +319,9 @@ rank AtItem = 12
 rank AtExpression = 13
 
 unfoldable pub fits : Want → ℕ → Bool
-fits (first d) p = eqb p 0
-fits (bindings v d) p = leb 1 p && leb p 3
-fits (clauses d) p = leb 2 p && leb p 3
+fits (first d) p = eqb p firstRank
+fits (bindings v d) p = leb bindingRank p && leb p endRank
+fits (clauses d) p = leb clauseRank p && leb p endRank
 fits (at q d) p = eqb p (rank q)
 
 abbrev pub variableOf : Head → ℕ
@@ -330,8 +331,8 @@ variableOf h = elim (h .var) [ none ↦ 0 | some v ↦ v ]
 unfoldable pub beyond : Want → Head → Read
 beyond (first d) h = ok h
 beyond (clauses d) h = ok h
-beyond (bindings v d) h = elim (eqb (rank (place h)) 1 && ltb (variableOf h) v) [ true ↦ bad 3 | false ↦ ok h ]
-beyond (at q d) h = elim (eqb (rank q) 13 && eqb d 0) [ true ↦ bad 5 | false ↦ ok h ]
+beyond (bindings v d) h = elim (eqb (rank (place h)) bindingRank && ltb (variableOf h) v) [ true ↦ bad badlyWritten | false ↦ ok h ]
+beyond (at q d) h = elim (eqb (rank q) expressionRank && eqb d 0) [ true ↦ bad tooDeep | false ↦ ok h ]
 
 abbrev pub andThen : Read → (Head → Read) → Read
 andThen (bad c) f = bad c
@@ -339,18 +340,18 @@ andThen (ok h) f = f h
 
 -- word allowed here and field count, then the fields, then what is beyond them
 unfoldable pub readFields : Want → Word → List Bytes → Read
-readFields w v fs = elim (fits w (rank (row v .place)) && eqb (length fs) (length (row v .fields))) [ true ↦ andThen (fill (bare v) (row v .fields) fs) (beyond w) | false ↦ bad 3 ]
+readFields w v fs = elim (fits w (rank (row v .place)) && eqb (length fs) (length (row v .fields))) [ true ↦ andThen (fill (bare v) (row v .fields) fs) (beyond w) | false ↦ bad badlyWritten ]
 
 abbrev pub readAs : Want → Option Word → List Bytes → Read
-readAs w none fs = bad 3
+readAs w none fs = bad badlyWritten
 readAs w (some v) fs = readFields w v fs
 
 unfoldable pub readPieces : Want → List Bytes → Read
-readPieces w [] = bad 3
+readPieces w [] = bad badlyWritten
 readPieces w (x ∷ fs) = readAs w (wordIn x words) fs
 
 unfoldable pub readLine : Want → Bytes → Read
-readLine w l = readPieces w (split 44 l)
+readLine w l = readPieces w (split comma l)
 
 -- ## A sheet
 
@@ -359,7 +360,7 @@ abbrev pub deeper : Want → ℕ
 deeper (first d) = d
 deeper (clauses d) = d
 deeper (bindings v d) = d
-deeper (at q d) = cond (eqb (rank q) 13) (d - 1) d
+deeper (at q d) = cond (eqb (rank q) expressionRank) (d - 1) d
 
 abbrev pub wanted : ℕ → Role → Want
 wanted d plain = at AtExpression d
@@ -371,7 +372,7 @@ wanted d (inner p) = at p d
 unfoldable pub after : ℕ → Head → List Want
 after d h =
     let p = rank (place h) in
-    elim (eqb p 0) [ true ↦ bindings 0 d ∷ [] | false ↦ elim (eqb p 1) [ true ↦ bindings (suc (variableOf h)) d ∷ [] | false ↦ elim (eqb p 2) [ true ↦ clauses d ∷ [] | false ↦ [] ] ] ]
+    elim (eqb p firstRank) [ true ↦ bindings 0 d ∷ [] | false ↦ elim (eqb p bindingRank) [ true ↦ bindings (suc (variableOf h)) d ∷ [] | false ↦ elim (eqb p clauseRank) [ true ↦ clauses d ∷ [] | false ↦ [] ] ] ]
 
 unfoldable pub under : Want → Head → List Want
 under w h = map (wanted (deeper w)) (roles h) ++ after (deeper w) h
@@ -391,13 +392,13 @@ carry n (ok h) rest = add h (rest h)
 
 -- the lines from line n on, against what is to come; the last piece is what stands after the last LF, and no whole line
 unfoldable pub check : List Want → ℕ → List Bytes → Sheet
-check ws n [] = refused 3 n
+check ws n [] = refused badlyWritten n
 check [] n ([] ∷ []) = heads []
-check [] n ((c ∷ cs) ∷ []) = refused 3 n
-check [] n (l ∷ l′ ∷ ls) = refused 3 n
-check (w ∷ ws) n (l ∷ []) = refused 3 n
+check [] n ((c ∷ cs) ∷ []) = refused badlyWritten n
+check [] n (l ∷ l′ ∷ ls) = refused badlyWritten n
+check (w ∷ ws) n (l ∷ []) = refused badlyWritten n
 check (w ∷ ws) n (l ∷ l′ ∷ ls) = carry n (readLine w l) (λ h. check (under w h ++ ws) (suc n) (l′ ∷ ls))
 
 -- a sheet whose expressions may stand at most d levels deep
 unfoldable pub sheet : ℕ → Bytes → Sheet
-sheet d s = check (first d ∷ []) 1 (split 10 s)
+sheet d s = check (first d ∷ []) 1 (split lineFeed s)

@@ -6,6 +6,7 @@ use Prim.Native.Nat.{ℕ, suc, zero, _+_, _*_, _%_, max, Ordering, Ordering·lt,
 use lib.ListN.{length}
 use lib.Dec.{eqb, ltb, leb}
 use Rattle.semantics.specs.Limits.{nameLimit, typeLimit, nestingLimit}
+use Rattle.semantics.specs.Codes.{comma, closeMark, openMark, anyLetter, nullLetter, boolLetter, intLetter, floatLetter, numLetter, stringLetter, dateLetter, datetimeLetter, listLetter, mapLetter, nodeLetter, relationshipLetter, pathLetter, unionLetter, unknownLetter}
 use Rattle.semantics.specs.Bytes.{Bytes, text, lex, same, split, hex, unhex}
 
 -- `Type`: the variants that hold nothing, and those that hold something. There is no data of lists of itself, so members and
@@ -46,17 +47,17 @@ names (field n t fs) = n ∷ names fs
 -- ## Type lines: letters A to P for the variants in `Type` order, each field followed by a comma
 
 unfoldable pub letter : Base → ℕ
-letter tAny = 65
-letter tNull = 66
-letter tBool = 67
-letter tInt = 68
-letter tFloat = 69
-letter tNum = 70
-letter tString = 71
-letter tDate = 72
-letter tDatetime = 73
-letter tPath = 78
-letter tUnknown = 80
+letter tAny = anyLetter
+letter tNull = nullLetter
+letter tBool = boolLetter
+letter tInt = intLetter
+letter tFloat = floatLetter
+letter tNum = numLetter
+letter tString = stringLetter
+letter tDate = dateLetter
+letter tDatetime = datetimeLetter
+letter tPath = pathLetter
+letter tUnknown = unknownLetter
 
 -- `matches!` on variants that hold nothing
 unfoldable pub among : Base → List Base → Bool
@@ -73,36 +74,36 @@ matches (tUnion ts) cs = false
 
 -- each writes before what follows it
 unfoldable pub nameTo : Bytes → Bytes → Bytes
-nameTo [] r = 44 ∷ r
+nameTo [] r = comma ∷ r
 nameTo (d ∷ ds) r = hex d ∷ nameTo ds r
 
 unfoldable pub namesTo : List Bytes → Bytes → Bytes
-namesTo [] r = 33 ∷ 44 ∷ r
+namesTo [] r = closeMark ∷ comma ∷ r
 namesTo (n ∷ ns) r = nameTo n (namesTo ns r)
 
 unfoldable pub labelsTo : Option (List Bytes) → Bytes → Bytes
-labelsTo none r = 33 ∷ 44 ∷ r
-labelsTo (some ls) r = 43 ∷ 44 ∷ namesTo ls r
+labelsTo none r = closeMark ∷ comma ∷ r
+labelsTo (some ls) r = openMark ∷ comma ∷ namesTo ls r
 
 unfoldable pub relTo : Option Bytes → Bytes → Bytes
-relTo none r = 33 ∷ 44 ∷ r
-relTo (some n) r = 43 ∷ 44 ∷ nameTo n r
+relTo none r = closeMark ∷ comma ∷ r
+relTo (some n) r = openMark ∷ comma ∷ nameTo n r
 
 unfoldable mutual
   pub lineTo : Ty → Bytes → Bytes
-  lineTo (base b) r = letter b ∷ 44 ∷ r
-  lineTo (tList t) r = 74 ∷ 44 ∷ lineTo t r
-  lineTo (tMap fs) r = 75 ∷ 44 ∷ fieldsTo fs r
-  lineTo (tNode ls) r = 76 ∷ 44 ∷ labelsTo ls r
-  lineTo (tRelationship n) r = 77 ∷ 44 ∷ relTo n r
-  lineTo (tUnion ts) r = 79 ∷ 44 ∷ membersTo ts r
+  lineTo (base b) r = letter b ∷ comma ∷ r
+  lineTo (tList t) r = listLetter ∷ comma ∷ lineTo t r
+  lineTo (tMap fs) r = mapLetter ∷ comma ∷ fieldsTo fs r
+  lineTo (tNode ls) r = nodeLetter ∷ comma ∷ labelsTo ls r
+  lineTo (tRelationship n) r = relationshipLetter ∷ comma ∷ relTo n r
+  lineTo (tUnion ts) r = unionLetter ∷ comma ∷ membersTo ts r
 
   pub membersTo : Tys → Bytes → Bytes
-  membersTo ∅ r = 33 ∷ 44 ∷ r
+  membersTo ∅ r = closeMark ∷ comma ∷ r
   membersTo (t ⊕ ts) r = lineTo t (membersTo ts r)
 
   pub fieldsTo : Fields → Bytes → Bytes
-  fieldsTo ∅ᶠ r = 33 ∷ 44 ∷ r
+  fieldsTo ∅ᶠ r = closeMark ∷ comma ∷ r
   fieldsTo (field n t fs) r = nameTo n (lineTo t (fieldsTo fs r))
 
 unfoldable pub line : Ty → Bytes
@@ -254,7 +255,7 @@ onward none f = none
 onward (some (a, r)) f = f a r
 
 abbrev pub closing? : Bytes → Bool
-closing? f = same f (33 ∷ [])
+closing? f = same f (closeMark ∷ [])
 
 unfoldable pub readNameIn : List Bytes → Front Bytes
 readNameIn [] = none
@@ -276,7 +277,7 @@ readNames (f ∷ fs) = elim (closing? f) [ true ↦ some ([], fs) | false ↦ mo
 -- `!` for nothing, or `+` and then what is read by f
 unfoldable pub readOption : {A : Type 0} → (List Bytes → Front A) → List Bytes → Front (Option A)
 readOption f [] = none
-readOption f (x ∷ fs) = elim (closing? x) [ true ↦ some (none, fs) | false ↦ elim (same x (43 ∷ [])) [ true ↦ onward (f fs) (λ a r. some (some a, r)) | false ↦ none ] ]
+readOption f (x ∷ fs) = elim (closing? x) [ true ↦ some (none, fs) | false ↦ elim (same x (openMark ∷ [])) [ true ↦ onward (f fs) (λ a r. some (some a, r)) | false ↦ none ] ]
 
 -- the variant that holds nothing of this letter
 unfoldable pub baseIn : ℕ → List Base → Option Base
@@ -298,15 +299,15 @@ unfoldable pub readBy : (List Bytes → Front Ty) → (List Bytes → Front Fiel
 readBy ty entries membs [] fs = none
 readBy ty entries membs (c ∷ d ∷ cs) fs = none
 readBy ty entries membs (c ∷ []) fs =
-    elim (eqb c 74) [
+    elim (eqb c listLetter) [
       | true ↦ onward (ty fs) (λ t r. some (tList t, r))
-      | false ↦ elim (eqb c 75) [
+      | false ↦ elim (eqb c mapLetter) [
         | true ↦ onward (entries fs) (λ es r. some (tMap es, r))
-        | false ↦ elim (eqb c 76) [
+        | false ↦ elim (eqb c nodeLetter) [
           | true ↦ onward (readOption readNames fs) (λ ls r. some (tNode ls, r))
-          | false ↦ elim (eqb c 77) [
+          | false ↦ elim (eqb c relationshipLetter) [
             | true ↦ onward (readOption readNameIn fs) (λ n r. some (tRelationship n, r))
-            | false ↦ elim (eqb c 79) [ true ↦ onward (membs fs) (λ ts r. some (tUnion ts, r)) | false ↦ readBase c fs ]
+            | false ↦ elim (eqb c unionLetter) [ true ↦ onward (membs fs) (λ ts r. some (tUnion ts, r)) | false ↦ readBase c fs ]
           ]
         ]
       ]
@@ -343,4 +344,4 @@ strict (some (t, [] ∷ f ∷ r)) = none
 strict (some (t, [] ∷ [])) = elim (regular t && not (tooLarge t)) [ true ↦ some t | false ↦ none ]
 
 unfoldable pub typeLine : Bytes → Option Ty
-typeLine s = let fs = split 44 s in strict (readType (2 * length fs) fs)
+typeLine s = let fs = split comma s in strict (readType (2 * length fs) fs)

@@ -5,6 +5,7 @@ use mathlib.Core.Bool.{Bool, true, false, _&&_}
 use Prim.Native.Nat.{ℕ, suc, zero}
 use lib.ListN.{getD, take, drop}
 use lib.Dec.{eqb, ltb}
+use Rattle.semantics.specs.Codes.{nodeKind, relationshipKind, pathKind, firstRank, bindingRank}
 use Rattle.semantics.specs.Bytes.{Bytes, text}
 use Rattle.semantics.specs.Ty.{Base, tAny, tNull, tBool, tInt, tFloat, tNum, tString, tPath, tUnknown, Ty, base, tList, tMap, tNode, tRelationship, tUnion, Fields, ∅ᶠ, among, matches, unite, firsts, setField}
 use Rattle.semantics.specs.Unify.{Answer, agreed, mismatch, Unified, unify}
@@ -37,7 +38,7 @@ pub record Env : Type 0 where
 
 -- `var_type`
 abbrev pub kindType : ℕ → Ty
-kindType k = elim (eqb k 0) [ true ↦ tNode none | false ↦ elim (eqb k 1) [ true ↦ tRelationship none | false ↦ elim (eqb k 2) [ true ↦ base tPath | false ↦ base tAny ] ] ]
+kindType k = elim (eqb k nodeKind) [ true ↦ tNode none | false ↦ elim (eqb k relationshipKind) [ true ↦ tRelationship none | false ↦ elim (eqb k pathKind) [ true ↦ base tPath | false ↦ base tAny ] ] ]
 
 unfoldable pub varTypeIn : ℕ → List (ℕ × ℕ) → Ty
 varTypeIn v [] = base tAny
@@ -391,7 +392,7 @@ binds (some v) k bs = (v, k) ∷ bs
 
 -- by the place of a line: the first line, a `b` line, any other
 unfoldable pub boundBy : ℕ → Option ℕ → ℕ → List (ℕ × ℕ) → List (ℕ × ℕ)
-boundBy p v k bs = elim (eqb p 0) [ true ↦ bs | false ↦ elim (eqb p 1) [ true ↦ binds v k bs | false ↦ [] ] ]
+boundBy p v k bs = elim (eqb p firstRank) [ true ↦ bs | false ↦ elim (eqb p bindingRank) [ true ↦ binds v k bs | false ↦ [] ] ]
 
 unfoldable pub bound : List Head → List (ℕ × ℕ)
 bound [] = []

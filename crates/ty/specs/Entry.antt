@@ -5,6 +5,7 @@ use mathlib.Core.List.{List, [], _∷_, _++_, map}
 use lib.Dec.{ltb}
 use lib.ListN.{length, take, drop}
 use lib.Seq.{slice}
+use Rattle.semantics.specs.Codes.{comma}
 use Rattle.semantics.specs.Limits.{typeLimit}
 use Rattle.semantics.specs.Bytes.{Bytes, hex}
 use Rattle.semantics.specs.Ty.{Ty, tMap, Fields, nameTo, line, tooLarge, setField}
@@ -45,7 +46,7 @@ pub record Fronted (s s′ l : Bytes) (r : Grown) : Type 0 where
 
 -- x and a comma at p, and [len, end) behind them
 unfoldable pub insertedAt : Bytes → ℕ → ℕ → ℕ → Bytes → Bytes
-insertedAt s len end p x = take p s ++ (x ++ (44 ∷ (slice len end s ++ slice p len s)))
+insertedAt s len end p x = take p s ++ (x ++ (comma ∷ (slice len end s ++ slice p len s)))
 
 -- [len, end) in place of [v, e)
 unfoldable pub replacedAt : Bytes → ℕ → ℕ → ℕ → ℕ → Bytes
@@ -66,7 +67,7 @@ TestedAs s TooLarge r = r ≡ TooLarge
 pub record Entering (s : Bytes) (len end : ℕ) (x : Bytes) : Type 0 where
   pub map : SomeMap s len x
   pub value : SomeType s len end
-  pub room : 1024 ≤ length s
+  pub room : typeLimit ≤ length s
 
 abbrev pub Entered : Bytes → Bytes → ℕ → ℕ → Bytes → Grown → Type 0
 Entered s s′ len end x r = (fs : Fields) (n : Bytes) (t : Ty) → MapFront s len x fs n → TypeAt s len end t → Made s s′ 0 (tMap (setField n t fs)) r

@@ -7,6 +7,7 @@ use mathlib.Core.Option.{Option, none, some}
 use lib.Dec.{eqb, ltb}
 use lib.ListN.{length, drop}
 use lib.Seq.{slice, sets}
+use Rattle.semantics.specs.Codes.{comma, closeMark}
 use Rattle.semantics.specs.Limits.{typeLimit}
 use Rattle.semantics.specs.Bytes.{Bytes, lex}
 use Rattle.semantics.specs.Ty.{Ty, tNode, nameTo, line, insertNames, ascending}
@@ -19,7 +20,7 @@ use Rattle.ty.specs.declared.merging.Merge.{Merge}
 
 -- the first name of a list, or its end
 unfoldable pub headTo : Option Bytes → Bytes → Bytes
-headTo none r = 33 ∷ r
+headTo none r = closeMark ∷ r
 headTo (some n) r = nameTo n r
 
 pub record HeadAt (s : Bytes) (p : ℕ) (o : Option Bytes) : Type 0 where
@@ -86,7 +87,7 @@ moved m x k =
 pub record Taking (s : Bytes) (m : Merge) (x k to : ℕ) : Type 0 where
   pub first : (x ≡ 1 → ⊥) → m .p + k ≤ to
   pub second : (x ≡ 0 → ⊥) → m .q + k ≤ to
-  pub room : to + 1024 ≤ length s
+  pub room : to + typeLimit ≤ length s
   pub kept : m .n ≤ 1022
 
 -- `!,` behind the n bytes at `to`
@@ -94,7 +95,7 @@ unfoldable pub closedOf : ℕ → Grown
 closedOf n = made (eqb n 0) (n + 2)
 
 unfoldable pub closedText : Bytes → ℕ → ℕ → Bytes
-closedText s to n = cond (eqb n 0) s (sets s (to + n) (33 ∷ 44 ∷ []))
+closedText s to n = cond (eqb n 0) s (sets s (to + n) (closeMark ∷ comma ∷ []))
 
 -- ## Labels
 

@@ -7,6 +7,7 @@ use lib.ListN.{length, drop, getD}
 use lib.Seq.{slice}
 use Rattle.bytes.specs.Bytes.{indexOf}
 use Rattle.text.specs.Text.{some?}
+use Rattle.semantics.specs.Codes.{comma, closeMark, listLetter, mapLetter, nodeLetter, relationshipLetter, unionLetter}
 use Rattle.semantics.specs.Bytes.{Bytes, lex}
 use Rattle.semantics.specs.Ty.{Ty, base, tList, tMap, tNode, tRelationship, tUnion, letter, lineTo, line, namesTo, labelsTo, relTo, nesting, below?, readName, baseIn, bases}
 use Rattle.semantics.proofs.Named.{Name, Names, Maybe, Named}
@@ -19,24 +20,24 @@ use Rattle.ty.specs.declared.end.TypeEnd.the-variants.{End, Bad}
 
 -- the field at q is the one byte b
 unfoldable pub fieldAt : Bytes → ℕ → ℕ → Bool
-fieldAt s q b = eqb (getD s q 0) b && eqb (getD s (q + 1) 0) 44
+fieldAt s q b = eqb (getD s q 0) b && eqb (getD s (q + 1) 0) comma
 
 -- the letter that is the field at q, or 0
 unfoldable pub letterAt : Bytes → ℕ → ℕ
-letterAt s q = cond (eqb (getD s (q + 1) 0) 44) (getD s q 0) 0
+letterAt s q = cond (eqb (getD s (q + 1) 0) comma) (getD s q 0) 0
 
 -- the letter of a type
 unfoldable pub kindOf : Ty → ℕ
 kindOf (base b) = letter b
-kindOf (tList t) = 74
-kindOf (tMap fs) = 75
-kindOf (tNode ls) = 76
-kindOf (tRelationship n) = 77
-kindOf (tUnion ts) = 79
+kindOf (tList t) = listLetter
+kindOf (tMap fs) = mapLetter
+kindOf (tNode ls) = nodeLetter
+kindOf (tRelationship n) = relationshipLetter
+kindOf (tUnion ts) = unionLetter
 
 -- what stands behind a letter: 0 no type, 1 nothing, 2 labels, 3 a name, 4 types
 unfoldable pub contentOf : ℕ → ℕ
-contentOf k = cond (eqb k 74) 4 (cond (eqb k 75) 4 (cond (eqb k 76) 2 (cond (eqb k 77) 3 (cond (eqb k 79) 4 (cond (some? (baseIn k bases)) 1 0)))))
+contentOf k = cond (eqb k listLetter) 4 (cond (eqb k mapLetter) 4 (cond (eqb k nodeLetter) 2 (cond (eqb k relationshipLetter) 3 (cond (eqb k unionLetter) 4 (cond (some? (baseIn k bases)) 1 0)))))
 
 -- ## What is read at a place
 
@@ -70,15 +71,15 @@ RelRead s at r = ReadsTo relTo (Maybe Name) s at r
 
 -- whether a type follows at q, of which n were read: one in a list, and up to `!,` in a map or a union
 unfoldable pub goesIn : ℕ → Bytes → ℕ → ℕ → Bool
-goesIn k s q n = cond (eqb k 74) (eqb n 0) (not (fieldAt s q 33))
+goesIn k s q n = cond (eqb k listLetter) (eqb n 0) (not (fieldAt s q closeMark))
 
 -- where the type of the part at q begins: behind the name of an entry
 unfoldable pub valueAt : ℕ → Bytes → ℕ → ℕ
-valueAt k s q = cond (eqb k 75) (min (nextField s q) (length s)) q
+valueAt k s q = cond (eqb k mapLetter) (min (nextField s q) (length s)) q
 
 -- where the key of the part [q, e) ends: an entry goes by its name, a member by its line
 unfoldable pub keyEnd : ℕ → Bytes → ℕ → ℕ → ℕ
-keyEnd k s q e = cond (eqb k 75) (q + indexOf 44 (drop q s)) e
+keyEnd k s q e = cond (eqb k mapLetter) (q + indexOf comma (drop q s)) e
 
 abbrev pub keyOf : ℕ → Bytes → ℕ → ℕ → Bytes
 keyOf k s q e = slice q (keyEnd k s q e) s
@@ -94,12 +95,12 @@ nameIn s at end = ltb end (length s) && some? (readName (slice at end s))
 -- whether the part [q, e) may follow the part [prev, q), of which n were read
 unfoldable pub allowed : ℕ → Bytes → ℕ → ℕ → ℕ → ℕ → Bool
 allowed k s prev q e n =
-    cond (eqb k 75) (nameIn s q (keyEnd 75 s q e) && inOrder n (keyOf 75 s prev q) (keyOf 75 s q e))
-    (cond (eqb k 79) (not (eqb (getD s q 0) 79) && inOrder n (keyOf 79 s prev q) (keyOf 79 s q e)) true)
+    cond (eqb k mapLetter) (nameIn s q (keyEnd mapLetter s q e) && inOrder n (keyOf mapLetter s prev q) (keyOf mapLetter s q e))
+    (cond (eqb k unionLetter) (not (eqb (getD s q 0) unionLetter) && inOrder n (keyOf unionLetter s prev q) (keyOf unionLetter s q e)) true)
 
 -- where a type of kind k ends whose n inner types end at q
 unfoldable pub endOf : ℕ → ℕ → ℕ → TypeEnd
-endOf k q n = cond (eqb k 74) (End q) (cond (eqb k 79 && ltb n 2) Bad (End (q + 2)))
+endOf k q n = cond (eqb k listLetter) (End q) (cond (eqb k unionLetter && ltb n 2) Bad (End (q + 2)))
 
 -- ## Nesting
 

@@ -7,27 +7,28 @@ use mathlib.Core.Option.{Option}
 use lib.Dec.{eqb, ltb}
 use lib.ListN.{length, drop, getD}
 use Rattle.bytes.specs.Bytes.{indexOf}
+use Rattle.semantics.specs.Codes.{comma, closeMark, listLetter, mapLetter, nodeLetter, relationshipLetter, unionLetter}
 use Rattle.semantics.specs.Bytes.{Bytes}
 use Rattle.semantics.specs.Ty.{relTo}
 
 -- brackets open behind a field that begins with c
 unfoldable pub openedBy : ℕ → ℕ → ℕ
-openedBy c k = cond (eqb c 33) (k - 1) (cond (eqb c 75 || (eqb c 76 || eqb c 79)) (k + 1) k)
+openedBy c k = cond (eqb c closeMark) (k - 1) (cond (eqb c mapLetter || (eqb c nodeLetter || eqb c unionLetter)) (k + 1) k)
 
 -- whether the type goes on there: behind `J`, or with a bracket open
 unfoldable pub goesOn : ℕ → ℕ → Bool
-goesOn c k = cond (eqb c 74) true (ltb 0 k)
+goesOn c k = cond (eqb c listLetter) true (ltb 0 k)
 
 -- where the field after the one at q begins
 abbrev pub nextField : Bytes → ℕ → ℕ
-nextField s q = q + indexOf 44 (drop q s) + 1
+nextField s q = q + indexOf comma (drop q s) + 1
 
 -- from the text x, with k brackets open, the skip comes to the text rest
 pub data Skip (rest : Bytes) : Bool → ℕ → Bytes → Type 0 where
   done : Skip rest false 0 rest
-  word : {k : ℕ} {x y : Bytes} (c : ℕ) → c ≡ getD y 0 0 → (c ≡ 33 → 0 < k) → (c ≡ 77 → ⊥) → indexOf 44 y < length y → x ≡ drop (indexOf 44 y + 1) y
+  word : {k : ℕ} {x y : Bytes} (c : ℕ) → c ≡ getD y 0 0 → (c ≡ closeMark → 0 < k) → (c ≡ relationshipLetter → ⊥) → indexOf comma y < length y → x ≡ drop (indexOf comma y + 1) y
       → Skip rest (goesOn c (openedBy c k)) (openedBy c k) x → Skip rest true k y
-  rel : {k : ℕ} {x : Bytes} (n : Option Bytes) → Skip rest (ltb 0 k) k x → Skip rest true k (77 ∷ 44 ∷ relTo n x)
+  rel : {k : ℕ} {x : Bytes} (n : Option Bytes) → Skip rest (ltb 0 k) k x → Skip rest true k (relationshipLetter ∷ comma ∷ relTo n x)
 
 -- a skip goes on from q
 pub record SkipAt (s : Bytes) (q : ℕ) : Type 0 where

@@ -6,6 +6,7 @@ use mathlib.Core.List.{List, _∷_, _++_}
 use lib.Dec.{ltb}
 use lib.ListN.{length, take, drop}
 use lib.Seq.{slice}
+use Rattle.semantics.specs.Codes.{comma, closeMark, unionLetter}
 use Rattle.semantics.specs.Limits.{typeLimit}
 use Rattle.semantics.specs.Bytes.{Bytes}
 use Rattle.semantics.specs.Ty.{Ty, line, insert, inserts, opened, joined, tooLarge}
@@ -110,7 +111,7 @@ AddedOpened s s′ n e r = (ms : List Ty) (t : Ty) → TypesAt s 0 n ms → Type
 
 -- `O,` before the first n bytes, and `!,` behind them
 abbrev pub wrapped : ℕ → Bytes → Bytes
-wrapped n s = 79 ∷ 44 ∷ (take n s ++ (33 ∷ 44 ∷ drop (n + 4) s))
+wrapped n s = unionLetter ∷ comma ∷ (take n s ++ (closeMark ∷ comma ∷ drop (n + 4) s))
 
 -- members stand at [0, n), with room for four bytes more
 pub record Closing (s : Bytes) (n : ℕ) : Type 0 where

@@ -6,16 +6,17 @@ use mathlib.Core.Bool.{true, false}
 use Prim.Native.Nat.{ℕ, _+_, _*_, _≤_}
 use lib.Dec.{eqb}
 use lib.ListN.{length}
+use Rattle.semantics.specs.Codes.{lineFeed, comma}
 use Rattle.semantics.specs.Bytes.{Bytes, text, shown}
 use Rattle.report.specs.Report.{Appends, numbersText, endText}
-use Rattle.catalogue.specs.Catalogue.{Live, Catalogue, Ask, entering, releasing, lookingUp, Told, Kept, readStore, storeCall}
+use Rattle.catalogue.specs.Catalogue.{storeHead, Live, Catalogue, Ask, entering, releasing, lookingUp, Told, Kept, readStore, storeCall}
 use Rattle.catalogue.specs.Places.{Run}
 use Rattle.typestore.specs.declared.answer.Said.{Said}
 use Rattle.typestore.specs.declared.list.Listed.{Listed}
 
 -- a live type: its number, its uses and its line
 abbrev pub lineText : ℕ → ℕ → Bytes → Bytes
-lineText n u t = text "live," ++ (shown n ++ (44 ∷ (shown u ++ (44 ∷ (t ++ (10 ∷ []))))))
+lineText n u t = text "live," ++ (shown n ++ (comma ∷ (shown u ++ (comma ∷ (t ++ (lineFeed ∷ []))))))
 
 abbrev pub doneText : Ask → Told → Bytes
 doneText (entering t) r = numbersText (text "entered,") (r .first) (r .second)
@@ -53,8 +54,8 @@ listText c = livesText (c .live) ++ endText (length (c .live)) (c .last)
 
 -- the lines of the live types up to `end`
 pub record Lines (s : Bytes) (end : ℕ) (out out′ : Bytes) (r : Listed) : Type 0 where
-  pub text : (ls : List Live) → Run s 8 ls end → Appends (livesText ls) out out′ 0 (r .fill)
-  pub count : (ls : List Live) → Run s 8 ls end → r .types ≡ length ls
+  pub text : (ls : List Live) → Run s storeHead ls end → Appends (livesText ls) out out′ 0 (r .fill)
+  pub count : (ls : List Live) → Run s storeHead ls end → r .types ≡ length ls
   pub short : r .fill + 48 ≤ 6 * end
 
 pub record Lists (s out out′ : Bytes) (r : Said) : Type 0 where

@@ -20,7 +20,7 @@ use Rattle.unify.specs.declared.Unified.the-variants.{Done}
 pub record SomeOperand (s : Bytes) (a e mark : ℕ) : Type 0 where
   pub ty : Ty
   pub at : Operand s a e mark ty
-  pub room : mark + 1024 ≤ length s
+  pub room : mark + typeLimit ≤ length s
 
 pub record OneAnswer (f : Ty → Run) (s s′ : Bytes) (a e mark : ℕ) (r : Unified) : Type 0 where
   pub below : Below s s′ mark
@@ -41,7 +41,7 @@ pub record SomeTypes (s : Bytes) (from n mark : ℕ) : Type 0 where
   pub types : List Ty
   pub at : TypesAt s from (from + n) types
   pub below : from + n ≤ mark
-  pub room : mark + 1024 ≤ length s
+  pub room : mark + typeLimit ≤ length s
 
 pub record NullAnswer (s s′ : Bytes) (from n mark : ℕ) (r : Unified) : Type 0 where
   pub below : Below s s′ mark
@@ -56,7 +56,7 @@ pub record SomeNodes (s : Bytes) (a b mark : ℕ) : Type 0 where
   pub second-labels : Option (List Bytes)
   pub first : Operand s a first-end mark (tNode first-labels)
   pub second : Operand s b second-end mark (tNode second-labels)
-  pub room : mark + 1024 ≤ length s
+  pub room : mark + typeLimit ≤ length s
 
 pub record NodesAnswer (s s′ : Bytes) (a b mark : ℕ) (r : Unified) : Type 0 where
   pub below : Below s s′ mark

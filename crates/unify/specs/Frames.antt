@@ -7,6 +7,8 @@ use mathlib.Core.Option.{Option, none, some}
 use mathlib.Core.Bool.{Bool, true, false}
 use lib.ListN.{length, drop}
 use lib.Seq.{slice}
+use Rattle.semantics.specs.Limits.{typeLimit}
+use Rattle.semantics.specs.Codes.{comma, listLetter, mapLetter}
 use Rattle.semantics.specs.Bytes.{Bytes}
 use Rattle.semantics.specs.Ty.{Ty, tList, tMap, Fields, ∅ᶠ, field, line, nameTo, fieldsTo, ascending, regular, tooLarge, union?}
 use Rattle.semantics.specs.Unify.{unify}
@@ -57,7 +59,7 @@ left rec (stopped r) = r
 
 -- room for an inner pair behind one slot
 abbrev pub Room : Bytes → ℕ → Ty → Ty → Type 0
-Room s mark x y = mark + 1024 + 1024 * slots x y ≤ length s
+Room s mark x y = mark + typeLimit + typeLimit * slots x y ≤ length s
 
 -- the pair that is next: [v, ve) and [w, we)
 pub record PairAt (s : Bytes) (mark : ℕ) (f : Frame) (t u : Ty) : Type 0 where
@@ -70,7 +72,7 @@ pub record ListPairAt (s : Bytes) (mark : ℕ) (f : Frame) (t u : Ty) : Type 0 w
   pub kind : f .kind ≡ 6
   pub pair : PairAt s mark f t u
   pub at : f .at ≡ mark + 2
-  pub head : slice mark (mark + 2) s ≡ 74 ∷ 44 ∷ []
+  pub head : slice mark (mark + 2) s ≡ listLetter ∷ comma ∷ []
 
 pub record ListDoneAt (s : Bytes) (mark : ℕ) (f : Frame) (v : Ty) : Type 0 where
   pub kind : f .kind ≡ 6
@@ -95,13 +97,13 @@ pub record EntriesAt (s : Bytes) (p mark : ℕ) (fs : Fields) : Type 0 where
 -- what is kept of a map at the mark: n bytes, `K,` and entries, or nothing once it is over
 abbrev pub KeptAt : Bytes → ℕ → ℕ → Option Fields → Type 0
 KeptAt s mark n none = n ≡ 0
-KeptAt s mark n (some fs) = (n ≡ 2 + length (entriesOf fs)) × (n ≤ 1022) × (slice mark (mark + n) s ≡ 75 ∷ 44 ∷ entriesOf fs)
+KeptAt s mark n (some fs) = (n ≡ 2 + length (entriesOf fs)) × (n ≤ 1022) × (slice mark (mark + n) s ≡ mapLetter ∷ comma ∷ entriesOf fs)
 
 -- the same with a name behind it: over as soon as the name alone is too much
 pub record NameKept (s : Bytes) (mark n : ℕ) (name : Bytes) (fs : Fields) : Type 0 where
   pub long : n ≡ 2 + length (entriesOf fs) + length (nameTo name [])
   pub fits : n ≤ 1022
-  pub is : slice mark (mark + n) s ≡ 75 ∷ 44 ∷ (entriesOf fs ++ nameTo name [])
+  pub is : slice mark (mark + n) s ≡ mapLetter ∷ comma ∷ (entriesOf fs ++ nameTo name [])
 
 pub record NameOver (n : ℕ) (name : Bytes) (fs : Fields) : Type 0 where
   pub over : n ≡ 0
@@ -139,9 +141,9 @@ pub record UnionAt (s : Bytes) (mark : ℕ) (f : Frame) (outers all ms : List Ty
   pub all-at : TypesAt s (f .i) (f .ie) all
   pub all-below : f .ie ≤ mark
   pub all-some : f .i < f .ie
-  pub all-fit : f .ie ≤ f .i + 1024
+  pub all-fit : f .ie ≤ f .i + typeLimit
   pub members-at : TypesAt s mark (mark + f .n) ms
-  pub members-fit : f .n ≤ 1024
+  pub members-fit : f .n ≤ typeLimit
   pub outers-plain : All Plain outers
   pub all-plain : All Plain all
   pub ms-plain : All Plain ms
@@ -167,7 +169,7 @@ pub record UnionDoneAt (s : Bytes) (mark : ℕ) (f : Frame) (ms : List Ty) : Typ
   pub kind : f .kind ≡ 10
   pub go : f .go ≡ 2
   pub members-at : TypesAt s mark (mark + f .n) ms
-  pub members-fit : f .n ≤ 1024
+  pub members-fit : f .n ≤ typeLimit
   pub room : mark + 2048 ≤ length s
 
 -- stopped: apart with the two types, or too large

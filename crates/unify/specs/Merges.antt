@@ -3,6 +3,7 @@ use Prim.Native.Nat.{ℕ, _+_, _<_, _≤_}
 use mathlib.Core.Path.{_≡_}
 use mathlib.Core.Option.{Option, none, some}
 use lib.ListN.{length, drop}
+use Rattle.semantics.specs.Limits.{typeLimit}
 use Rattle.semantics.specs.Bytes.{Bytes}
 use Rattle.semantics.specs.Ty.{Ty, Fields, ∅ᶠ, field, nameTo, lineTo, line}
 use Rattle.ty.specs.declared.merging.Merge.{Merge}
@@ -32,7 +33,7 @@ pub record MergeFor (s : Bytes) (m : Merge) (mark : ℕ) (R : Run) : Type 0 wher
   pub kept : KeptAt s mark (m .n) k
   pub comes : runMaps judged first second k ≡ R
   pub rooms : (x y : Ty) → Value x first → Value y second → Room s mark x y
-  pub room : mark + 1024 ≤ length s
+  pub room : mark + typeLimit ≤ length s
 
 pub record SomeMerge (s : Bytes) (m : Merge) (mark : ℕ) : Type 0 where
   pub run : Run

@@ -6,6 +6,7 @@ use mathlib.Core.List.{List}
 use mathlib.Core.Option.{Option}
 use lib.Dec.{eqb}
 use lib.ListN.{length}
+use Rattle.semantics.specs.Limits.{typeLimit}
 use Rattle.semantics.specs.Bytes.{Bytes}
 use Rattle.semantics.specs.Ty.{Ty, Fields}
 use Rattle.ty.specs.Parts.{TypeAt}
@@ -91,7 +92,7 @@ pub record SomeEnd (s : Bytes) (mark : ℕ) (f : Frame) : Type 0 where
   pub left-of : Left
   pub stands : FrameAt s mark f left-of
   pub over : 2 ≤ f .go
-  pub room : mark + 1024 ≤ length s
+  pub room : mark + typeLimit ≤ length s
 
 pub record Finished (s s′ : Bytes) (mark : ℕ) (f : Frame) (r : Unified) : Type 0 where
   pub below : Below s s′ mark

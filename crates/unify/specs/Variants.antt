@@ -4,6 +4,7 @@ use mathlib.Core.Path.{_≡_}
 use mathlib.Core.List.{List, [], _∷_, List·Memᴰ}
 use mathlib.Core.Option.{Option, none, some}
 use lib.ListN.{length}
+use Rattle.semantics.specs.Limits.{typeLimit}
 use Rattle.semantics.specs.Bytes.{Bytes}
 use Rattle.semantics.specs.Ty.{Ty}
 use Rattle.ty.specs.Union.{TypesAt}
@@ -28,13 +29,13 @@ pub record Sides (arm a ae b be : ℕ) (r : Pairing) : Type 0 where
 -- members at the mark, n bytes
 pub record RunningAt (s : Bytes) (mark n : ℕ) (ms : List Ty) : Type 0 where
   pub at : TypesAt s mark (mark + n) ms
-  pub fit : n ≤ 1024
+  pub fit : n ≤ typeLimit
 
 -- types at [from, to) below the mark, few enough to be copied behind the members
 pub record FewAt (s : Bytes) (from to mark : ℕ) (ts : List Ty) : Type 0 where
   pub at : TypesAt s from to ts
   pub below : to ≤ mark
-  pub few : to ≤ from + 1024
+  pub few : to ≤ from + typeLimit
 
 -- what is asked before types join
 pub record Joining (s : Bytes) (from to mark n : ℕ) : Type 0 where
@@ -76,7 +77,7 @@ pub record SomeOuters (s : Bytes) (mark : ℕ) (f : Frame) : Type 0 where
 -- the frame at its next outer type; it may have the first variant before it again
 pub record NextOuter (s : Bytes) (mark : ℕ) (f r : Frame) : Type 0 where
   pub frame : (os all ms : List Ty) → UnionAt s mark f os all ms → Comes s mark r (runMembers judged all os ms)
-  pub falls : r .go < 2 → measure mark r ≤ (f .pe - f .p) * 2048 + (f .ie - f .ve) + 1024
+  pub falls : r .go < 2 → measure mark r ≤ (f .pe - f .p) * 2048 + (f .ie - f .ve) + typeLimit
 
 -- an outer type is there
 pub record SomeOuter (s : Bytes) (mark : ℕ) (f : Frame) : Type 0 where

@@ -3,6 +3,7 @@ use Prim.Native.Nat.{ℕ, _+_, _-_, _*_, _/_, _≤_}
 use mathlib.Core.Path.{_≡_}
 use mathlib.Core.Bool.{Bool, true, false, cond, _||_}
 use lib.ListN.{length, take}
+use Rattle.semantics.specs.Limits.{typeLimit}
 use Rattle.semantics.specs.Bytes.{Bytes}
 use Rattle.semantics.specs.Ty.{Ty, nesting, regular, tooLarge, union?}
 use Rattle.semantics.specs.Unify.{unify}
@@ -28,7 +29,7 @@ pub record Ready (s : Bytes) (a ae b be mark : ℕ) : Type 0 where
   pub right : Ty
   pub first : Operand s a ae mark left
   pub second : Operand s b be mark right
-  pub room : mark + 1024 * slots left right ≤ length s
+  pub room : mark + typeLimit * slots left right ≤ length s
 
 -- what an answer says: where the type ends that stands at the mark now; where the two types stand that do not unify; too large
 abbrev pub Answered : Run → Bytes → ℕ → Unified → Type 0

@@ -4,6 +4,7 @@ use Prim.Native.Nat.{_+_}
 use lib.ListN.{length}
 use lib.Seq.{sets}
 use denote.Ref.{now, at-last}
+use Rattle.semantics.specs.Codes.{lineFeed}
 use Rattle.semantics.specs.Bytes.{Bytes}
 use Rattle.writer.specs.declared.Writer.{Writer}
 
@@ -13,4 +14,4 @@ written w t = record { out = at-last (w .out) (sets (now (w .out)) (w .fill) t);
 
 -- a line of the report: its head, its body and LF
 abbrev pub lineText : Bytes → Bytes → Bytes
-lineText head body = head ++ (body ++ (10 ∷ []))
+lineText head body = head ++ (body ++ (lineFeed ∷ []))
