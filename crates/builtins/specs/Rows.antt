@@ -24,9 +24,27 @@ returnOf n = getD (fixed (base tInt) ∷ fixed (tList (base tString)) ∷ fixed 
 unfoldable pub builtinOf : ℕ → Builtin
 builtinOf n = getD builtins n VALUES
 
--- the number of a function's row, 7 for none
+-- how many functions there are, and so the number of none; how many shapes, and how many classes of types they tell apart
+abbrev pub noBuiltin : ℕ
+noBuiltin = 7
+
+abbrev pub shapeCount : ℕ
+shapeCount = 7
+
+-- the longest name, and the room for a name in a row
+abbrev pub longestName : ℕ
+longestName = 6
+
+-- the numbers of two return shapes
+abbrev pub listElementNumber : ℕ
+listElementNumber = 3
+
+abbrev pub listSelfNumber : ℕ
+listSelfNumber = 4
+
+-- the number of a function's row
 unfoldable pub rowOf : Option Builtin → ℕ
-rowOf none = 7
+rowOf none = noBuiltin
 rowOf (some b) = elim b [ ID ↦ 0 | SIZE ↦ 1 | HEAD ↦ 2 | TAIL ↦ 3 | LAST ↦ 4 | KEYS ↦ 5 | VALUES ↦ 6 ]
 
 -- the row r says what the function's signature does
@@ -34,9 +52,9 @@ pub record RowFor (b : Builtin) (r : Row) : Type 0 where
   pub named : take (r .len) (r .name) ≡ signature b .name
   pub takes : shapeOf (r .shape) ∷ [] ≡ signature b .params
   pub gives : returnOf (r .ret) ≡ signature b .ret
-  pub short : r .len ≤ 6
-  pub wide : length (r .name) ≡ 6
-  pub shapes : r .shape < 7
+  pub short : r .len ≤ longestName
+  pub wide : length (r .name) ≡ longestName
+  pub shapes : r .shape < shapeCount
 
 -- what the shapes tell apart of a type, by its kind letter: 0 Any and Unknown, 1 strings, 2 paths, 3 lists, 4 nodes and relationships, 5 maps
 unfoldable pub classOf : ℕ → ℕ

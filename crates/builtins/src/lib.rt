@@ -6,7 +6,7 @@ ghost use lib.ListN.{length};
 ghost use lib.Seq.{sets};
 ghost use Rattle.semantics.specs.Builtins.{signature, lookup, describe};
 ghost use Rattle.text.specs.Text.{digitOf};
-ghost use Rattle.builtins.specs.Rows.{shapeOf, returnOf, builtinOf, rowOf, RowFor, classOf, acceptsClass, AcceptsKind, SomeFirst, Resolved};
+ghost use Rattle.builtins.specs.Rows.{noBuiltin, shapeCount, longestName, listElementNumber, listSelfNumber, shapeOf, returnOf, builtinOf, rowOf, RowFor, classOf, acceptsClass, AcceptsKind, SomeFirst, Resolved};
 use ty::ANY;
 use ty::LIST;
 use ty::MAP;
@@ -16,8 +16,11 @@ use ty::RELATIONSHIP;
 use ty::STRING;
 use ty::UNKNOWN;
 
+// The room for a name in a row: the longest name's bytes.
+const NAME_ROOM: usize = 6;
+
 pub struct Row {
-    pub name: [u8; 6],
+    pub name: [u8; NAME_ROOM],
     pub len: usize,
     pub shape: usize,
     pub ret: u8,
@@ -55,7 +58,7 @@ const SAME_LIST: u8 = 4;
 // How many functions there are, and so the number of none.
 pub const NO_BUILTIN: usize = 7;
 
-const BUILTINS: [Row; 7] = [
+const BUILTINS: [Row; NO_BUILTIN] = [
     Row {
         name: [b'i', b'd', 0, 0, 0, 0],
         len: 2,
@@ -102,13 +105,13 @@ const BUILTINS: [Row; 7] = [
 
 // The table stands in this function's proof alone.
 pub fn row_at(i: usize) -> Row
-    requires { ⌜ i < 7 ⌝ }
+    requires { ⌜ i < noBuiltin ⌝ }
     ensures { λ r. ⌜ RowFor (builtinOf i) r ⌝ }
 {
     BUILTINS[i]
 }
 
-// The number of the row that a name in hexadecimal spells, ignoring ASCII case; 7 where there is none.
+// The number of the row that a name in hexadecimal spells, ignoring ASCII case; `NO_BUILTIN` where there is none.
 pub fn lookup(hex: &[u8]) -> usize
     ensures { λ r. ⌜ r ≡ rowOf (lookup (map digitOf (now (hex .entry)))) ⌝ }
 {
@@ -127,8 +130,8 @@ pub fn lookup(hex: &[u8]) -> usize
 
 // The shape of a function's one parameter.
 pub fn shape_of(row: usize) -> usize
-    requires { ⌜ row < 7 ⌝ }
-    ensures { λ r. ⌜ (shapeOf r ∷ [] ≡ signature (builtinOf row) .params) × (r < 7) ⌝ }
+    requires { ⌜ row < noBuiltin ⌝ }
+    ensures { λ r. ⌜ (shapeOf r ∷ [] ≡ signature (builtinOf row) .params) × (r < shapeCount) ⌝ }
 {
     let r = row_at(row);
     r.shape
@@ -136,7 +139,7 @@ pub fn shape_of(row: usize) -> usize
 
 // What a function returns.
 pub fn return_of(row: usize) -> u8
-    requires { ⌜ row < 7 ⌝ }
+    requires { ⌜ row < noBuiltin ⌝ }
     ensures { λ r. ⌜ returnOf r ≡ signature (builtinOf row) .ret ⌝ }
 {
     let r = row_at(row);
@@ -144,7 +147,7 @@ pub fn return_of(row: usize) -> u8
 }
 
 pub fn append_name(out: &mut [u8], fill: usize, row: usize) -> usize
-    requires { ⌜ (row < 7) × (fill + 6 < 2 ^ 64) ⌝ }
+    requires { ⌜ (row < noBuiltin) × (fill + longestName < 2 ^ 64) ⌝ }
     ensures { λ r. ⌜ (r ≡ fill + length (signature (builtinOf row) .name)) × (now (out .exit) ≡ sets (now (out .entry)) fill (signature (builtinOf row) .name)) ⌝ }
 {
     let r = row_at(row);
@@ -153,26 +156,41 @@ pub fn append_name(out: &mut [u8], fill: usize, row: usize) -> usize
     text::append(out, fill, &name[..len])
 }
 
-// What the shapes tell apart of a type of kind k: Any and Unknown, strings, paths, lists, nodes and relationships, maps, the others.
+// The classes of types that the shapes tell apart: Any and Unknown; strings; paths; lists; nodes and relationships; maps; the others.
+const OPEN_CLASS: usize = 0;
+
+const STRING_CLASS: usize = 1;
+
+const PATH_CLASS: usize = 2;
+
+const LIST_CLASS: usize = 3;
+
+const ENTITY_CLASS: usize = 4;
+
+const MAP_CLASS: usize = 5;
+
+const OTHER_CLASS: usize = 6;
+
+// The class of the types of kind k.
 pub fn class_of(k: u8) -> usize
-    ensures { λ r. ⌜ (r ≡ classOf k) × (r < 7) ⌝ }
+    ensures { λ r. ⌜ (r ≡ classOf k) × (r < shapeCount) ⌝ }
 {
     match k {
-        ANY => 0,
-        UNKNOWN => 0,
-        STRING => 1,
-        PATH => 2,
-        LIST => 3,
-        NODE => 4,
-        RELATIONSHIP => 4,
-        MAP => 5,
-        _ => 6,
+        ANY => OPEN_CLASS,
+        UNKNOWN => OPEN_CLASS,
+        STRING => STRING_CLASS,
+        PATH => PATH_CLASS,
+        LIST => LIST_CLASS,
+        NODE => ENTITY_CLASS,
+        RELATIONSHIP => ENTITY_CLASS,
+        MAP => MAP_CLASS,
+        _ => OTHER_CLASS,
     }
 }
 
 // Whether a shape accepts a class of types: a row of seven for each shape.
 pub fn accepts_class(shape: usize, class: usize) -> bool
-    requires { ⌜ (shape < 7) × (class < 7) ⌝ }
+    requires { ⌜ (shape < shapeCount) × (class < shapeCount) ⌝ }
     ensures { λ r. ⌜ r ≡ acceptsClass (shapeOf shape) class ⌝ }
 {
     let table = b"1111111100100011000001101000101010010000101000110";
@@ -181,14 +199,14 @@ pub fn accepts_class(shape: usize, class: usize) -> bool
 
 // Whether a shape accepts the types of kind k.
 pub fn accepts(shape: usize, k: u8) -> bool
-    requires { ⌜ shape < 7 ⌝ }
+    requires { ⌜ shape < shapeCount ⌝ }
     ensures { λ r. ⌜ AcceptsKind shape k r ⌝ }
 {
     accepts_class(shape, class_of(k))
 }
 
 // What `describe` says of a shape.
-pub fn append_shape(out: &mut [u8], fill: usize, shape: usize) -> usize
+pub fn describe(out: &mut [u8], fill: usize, shape: usize) -> usize
     requires { ⌜ fill + 26 < 2 ^ 64 ⌝ }
     ensures { λ r. ⌜ (r ≡ fill + length (describe (shapeOf shape))) × (now (out .exit) ≡ sets (now (out .entry)) fill (describe (shapeOf shape))) ⌝ }
 {
@@ -206,7 +224,7 @@ pub fn append_shape(out: &mut [u8], fill: usize, shape: usize) -> usize
 // The element of the list type [0..len), to the front; Any of another type or none.
 pub fn list_element(part: &mut [u8], len: usize) -> usize
     requires { ⌜ SomeFirst (now part) len ⌝ }
-    ensures { λ r. ⌜ Resolved 3 (now (part .entry)) (now (part .exit)) len r ⌝ }
+    ensures { λ r. ⌜ Resolved listElementNumber (now (part .entry)) (now (part .exit)) len r ⌝ }
 {
     if len > 0 {
         if part[0] == LIST {
@@ -221,7 +239,7 @@ pub fn list_element(part: &mut [u8], len: usize) -> usize
 // The list type [0..len) itself; a list of Any of another type or none.
 pub fn list_self(part: &mut [u8], len: usize) -> usize
     requires { ⌜ SomeFirst (now part) len ⌝ }
-    ensures { λ r. ⌜ Resolved 4 (now (part .entry)) (now (part .exit)) len r ⌝ }
+    ensures { λ r. ⌜ Resolved listSelfNumber (now (part .entry)) (now (part .exit)) len r ⌝ }
 {
     if len > 0 {
         if part[0] == LIST {

@@ -16,7 +16,7 @@ use Rattle.semantics.specs.Walk.{Fault, E2009, E2010, E2011, E2012, E2013, E501
 use Rattle.semantics.specs.Calls.{typeName, faultText, faultLine, topLine, faultCount, endLine, topLines, reportLines, report}
 use Rattle.text.proofs.Laws.{sets-append, take-sets}
 use Rattle.ty.specs.Read.{kindOf}
-use Rattle.ty.proofs.KindLaws.{name-part}
+use Rattle.ty.proofs.KindLaws.{kind-name}
 use Rattle.builtins.proofs.Laws.{name-short, describe-short}
 use Rattle.writer.specs.Written.{lineText}
 use Rattle.report.specs.declared.Tally.{Tally}
@@ -147,7 +147,7 @@ only e = cc
 
 -- how long they are
 type-name-short : (t : Ty) → length (typeName t) ≤ 12
-type-name-short t = name-part t .short
+type-name-short t = kind-name t .short
 
 pub name-end : (t : Ty) {o o′ : Bytes} {f r : ℕ} → Appends (typeName t) o o′ f r → r ≤ f + 12
 name-end t w = omega (arith, w .end, type-name-short t)

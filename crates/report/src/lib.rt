@@ -10,7 +10,7 @@ ghost use Rattle.semantics.specs.Builtins.{signature};
 ghost use Rattle.semantics.specs.Calls.{faultText};
 ghost use Rattle.ty.specs.Read.{kindOf};
 ghost use Rattle.ty.specs.Kind.{SomeKind};
-ghost use Rattle.builtins.specs.Rows.{builtinOf};
+ghost use Rattle.builtins.specs.Rows.{builtinOf, noBuiltin};
 ghost use Rattle.report.specs.Report.{Appends, Starts, Adds, codeFault, IsCode, IsFaultCode, OpenKind, NumericKind, NumbersLine, typeText, endText};
 use text::COMMA;
 use ty::ANY;
@@ -84,7 +84,7 @@ pub fn fault(out: &mut [u8], t: Tally, code: u64, kind: u8) -> Tally
 {
     let mut body = [0u8; BODY_ROOM];
     let n = fault_code(&mut body, code);
-    let end = ty::append_type_name(&mut body, n, kind);
+    let end = ty::type_name(&mut body, n, kind);
     fault_line(out, t, &body[..end])
 }
 
@@ -95,24 +95,24 @@ pub fn fault_in(out: &mut [u8], t: Tally, kind: u8, element: u8) -> Tally
 {
     let mut body = [0u8; BODY_ROOM];
     let n = fault_code(&mut body, E2012);
-    let m = ty::append_type_name(&mut body, n, kind);
+    let m = ty::type_name(&mut body, n, kind);
     let k = text::put(&mut body, m, COMMA);
-    let end = ty::append_type_name(&mut body, k, element);
+    let end = ty::type_name(&mut body, k, element);
     fault_line(out, t, &body[..end])
 }
 
 // A fault of a built-in: its name, the argument's type, what was expected.
 pub fn fault_call(out: &mut [u8], t: Tally, row: usize, kind: u8) -> Tally
-    requires { ⌜ (t .fill + 128 < 2 ^ 64) × (t .faults + 1 < 2 ^ 64) × (row < 7) × SomeKind kind ⌝ }
+    requires { ⌜ (t .fill + 128 < 2 ^ 64) × (t .faults + 1 < 2 ^ 64) × (row < noBuiltin) × SomeKind kind ⌝ }
     ensures { λ r. ⌜ ((u : Ty) → kindOf u ≡ kind → (s : _) → signature (builtinOf row) .params ≡ s ∷ [] → Adds (E5012 (builtinOf row) u s ∷ []) (now (out .entry)) (now (out .exit)) t r) ⌝ }
 {
     let mut body = [0u8; BODY_ROOM];
     let n = fault_code(&mut body, E5012);
     let m = builtins::append_name(&mut body, n, row);
     let k = text::put(&mut body, m, COMMA);
-    let i = ty::append_type_name(&mut body, k, kind);
+    let i = ty::type_name(&mut body, k, kind);
     let j = text::put(&mut body, i, COMMA);
-    let end = builtins::append_shape(&mut body, j, builtins::shape_of(row));
+    let end = builtins::describe(&mut body, j, builtins::shape_of(row));
     fault_line(out, t, &body[..end])
 }
 

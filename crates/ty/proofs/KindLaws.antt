@@ -4,14 +4,14 @@ use native.Mathlib.Omega.{arith}
 use mathlib.Core.Path.{_≡_, refl, sym, ap, _∙_}
 use mathlib.Core.List.{List, [], _∷_}
 use lib.ListN.{length, getD, drop, take}
-use lib.Seq.{slice, slice-cons, length-slice}
+use lib.Seq.{slice-cons, length-slice, sets}
 use Rattle.semantics.specs.Bytes.{Bytes, text}
 use Rattle.semantics.specs.Ty.{Base, tAny, tNull, tBool, tInt, tFloat, tNum, tString, tDate, tDatetime, tPath, tUnknown, Ty, base, tList, tMap, tNode, tRelationship, tUnion, letter, line}
 use Rattle.semantics.specs.Calls.{typeName}
 use Rattle.semantics.proofs.Order.{head-eq}
 use Rattle.ty.specs.Parts.{TypeAt}
 use Rattle.ty.specs.Read.{kindOf}
-use Rattle.ty.specs.Kind.{nameEnd}
+use Rattle.ty.specs.Kind.{nameOfKind, NameWritten}
 use Rattle.ty.proofs.Fields.{line-opens}
 
 pub two-at : (s : Bytes) (a e : ℕ) (t : Ty) → TypeAt s a e t → a + 2 ≤ e
@@ -24,48 +24,38 @@ kind-at s a e t h =
     let k = two-at s a e t h in
     head-eq (sym (slice-cons a e s 0 (omega arith) (h .inside)) ∙ h .is ∙ line-opens t [])
 
--- the name's place among all names
-pub record NamePart (t : Ty) : Type 0 where
+-- what is known of a kind's letter and name
+pub record KindName (t : Ty) : Type 0 where
   pub low : 65 ≤ kindOf t
   pub high : kindOf t ≤ 80
-  pub ordered : nameEnd (kindOf t - 65) ≤ nameEnd (kindOf t - 65 + 1)
-  pub inside : nameEnd (kindOf t - 65 + 1) ≤ 79
-  pub is : slice (nameEnd (kindOf t - 65)) (nameEnd (kindOf t - 65 + 1)) (text "AnyNullBoolIntFloatNumStringDateDatetimeListMapNodeRelationshipPathUnionUnknown") ≡ typeName t
+  pub is : nameOfKind (kindOf t) ≡ typeName t
   pub short : length (typeName t) ≤ 12
 
-base-part : (b : Base) → NamePart (base b)
-unfolding kindOf letter nameEnd text typeName
-base-part tAny = record { low = omega arith; high = omega arith; ordered = omega arith; inside = omega arith; is = refl; short = omega arith }
-base-part tNull = record { low = omega arith; high = omega arith; ordered = omega arith; inside = omega arith; is = refl; short = omega arith }
-base-part tBool = record { low = omega arith; high = omega arith; ordered = omega arith; inside = omega arith; is = refl; short = omega arith }
-base-part tInt = record { low = omega arith; high = omega arith; ordered = omega arith; inside = omega arith; is = refl; short = omega arith }
-base-part tFloat = record { low = omega arith; high = omega arith; ordered = omega arith; inside = omega arith; is = refl; short = omega arith }
-base-part tNum = record { low = omega arith; high = omega arith; ordered = omega arith; inside = omega arith; is = refl; short = omega arith }
-base-part tString = record { low = omega arith; high = omega arith; ordered = omega arith; inside = omega arith; is = refl; short = omega arith }
-base-part tDate = record { low = omega arith; high = omega arith; ordered = omega arith; inside = omega arith; is = refl; short = omega arith }
-base-part tDatetime = record { low = omega arith; high = omega arith; ordered = omega arith; inside = omega arith; is = refl; short = omega arith }
-base-part tPath = record { low = omega arith; high = omega arith; ordered = omega arith; inside = omega arith; is = refl; short = omega arith }
-base-part tUnknown = record { low = omega arith; high = omega arith; ordered = omega arith; inside = omega arith; is = refl; short = omega arith }
+base-name : (b : Base) → KindName (base b)
+unfolding kindOf letter nameOfKind text typeName
+base-name tAny = record { low = omega arith; high = omega arith; is = refl; short = omega arith }
+base-name tNull = record { low = omega arith; high = omega arith; is = refl; short = omega arith }
+base-name tBool = record { low = omega arith; high = omega arith; is = refl; short = omega arith }
+base-name tInt = record { low = omega arith; high = omega arith; is = refl; short = omega arith }
+base-name tFloat = record { low = omega arith; high = omega arith; is = refl; short = omega arith }
+base-name tNum = record { low = omega arith; high = omega arith; is = refl; short = omega arith }
+base-name tString = record { low = omega arith; high = omega arith; is = refl; short = omega arith }
+base-name tDate = record { low = omega arith; high = omega arith; is = refl; short = omega arith }
+base-name tDatetime = record { low = omega arith; high = omega arith; is = refl; short = omega arith }
+base-name tPath = record { low = omega arith; high = omega arith; is = refl; short = omega arith }
+base-name tUnknown = record { low = omega arith; high = omega arith; is = refl; short = omega arith }
 
-pub name-part : (t : Ty) → NamePart t
-unfolding kindOf nameEnd text typeName
-name-part (base b) = base-part b
-name-part (tList t) = record { low = omega arith; high = omega arith; ordered = omega arith; inside = omega arith; is = refl; short = omega arith }
-name-part (tMap fs) = record { low = omega arith; high = omega arith; ordered = omega arith; inside = omega arith; is = refl; short = omega arith }
-name-part (tNode ls) = record { low = omega arith; high = omega arith; ordered = omega arith; inside = omega arith; is = refl; short = omega arith }
-name-part (tRelationship n) = record { low = omega arith; high = omega arith; ordered = omega arith; inside = omega arith; is = refl; short = omega arith }
-name-part (tUnion ts) = record { low = omega arith; high = omega arith; ordered = omega arith; inside = omega arith; is = refl; short = omega arith }
+pub kind-name : (t : Ty) → KindName t
+unfolding kindOf nameOfKind text typeName
+kind-name (base b) = base-name b
+kind-name (tList t) = record { low = omega arith; high = omega arith; is = refl; short = omega arith }
+kind-name (tMap fs) = record { low = omega arith; high = omega arith; is = refl; short = omega arith }
+kind-name (tNode ls) = record { low = omega arith; high = omega arith; is = refl; short = omega arith }
+kind-name (tRelationship n) = record { low = omega arith; high = omega arith; is = refl; short = omega arith }
+kind-name (tUnion ts) = record { low = omega arith; high = omega arith; is = refl; short = omega arith }
 
--- the same of ends that were read from the table
-pub record NameAt (t : Ty) (a e : ℕ) : Type 0 where
-  pub ordered : a ≤ e
-  pub inside : e ≤ 79
-  pub is : slice a e (text "AnyNullBoolIntFloatNumStringDateDatetimeListMapNodeRelationshipPathUnionUnknown") ≡ typeName t
-  pub short : length (typeName t) ≤ 12
-
-pub named : (t : Ty) (k a e : ℕ) → kindOf t ≡ k → a ≡ nameEnd (k - 65) → e ≡ nameEnd (k - 65 + 1) → NameAt t a e
-named t k a e p q r =
-    let n = name-part t in
-    let a′ : a ≡ nameEnd (kindOf t - 65) = cc in
-    let e′ : e ≡ nameEnd (kindOf t - 65 + 1) = cc in
-    rw (a′, e′) (record { ordered = n .ordered; inside = n .inside; is = n .is; short = n .short })
+-- what was written for a letter is the name of each type of that kind
+pub name-written : (s s′ : Bytes) (n r k l : ℕ) → k ≡ l → (r ≡ n + length (nameOfKind l)) × (s′ ≡ sets s n (nameOfKind l)) → NameWritten s s′ n k r
+name-written s s′ n r k l p w t e =
+    let q : nameOfKind l ≡ typeName t = ap nameOfKind (sym (e ∙ p)) ∙ kind-name t .is in
+    (w .0 ∙ ap (λ (x : Bytes). n + length x) q, w .1 ∙ ap (λ (x : Bytes). sets s n x) q)

@@ -1,10 +1,12 @@
--- Where the name of a kind of types stands among the names of all: what the contracts of names.rt cite.
+-- Kinds of types by their letters, and their names: what the contract of names.rt cites.
 use Prim.Native.Nat.{ℕ, _+_}
 use mathlib.Core.Path.{_≡_}
-use mathlib.Core.List.{List, [], _∷_}
-use lib.ListN.{length, getD}
+use mathlib.Core.Bool.{cond}
+use lib.ListN.{length}
+use lib.Dec.{eqb}
 use lib.Seq.{sets}
-use Rattle.semantics.specs.Bytes.{Bytes}
+use Rattle.semantics.specs.Codes.{anyLetter, nullLetter, boolLetter, intLetter, floatLetter, numLetter, stringLetter, dateLetter, datetimeLetter, listLetter, mapLetter, nodeLetter, relationshipLetter, pathLetter, unionLetter}
+use Rattle.semantics.specs.Bytes.{Bytes, text}
 use Rattle.semantics.specs.Ty.{Ty}
 use Rattle.semantics.specs.Calls.{typeName}
 use Rattle.ty.specs.Read.{kindOf}
@@ -14,9 +16,9 @@ pub record SomeKind (k : ℕ) : Type 0 where
   pub ty : Ty
   pub is : kindOf ty ≡ k
 
--- where the names of the kinds before a letter end, where all stand one after the other
-unfoldable pub nameEnd : ℕ → ℕ
-nameEnd i = getD (0 ∷ 3 ∷ 7 ∷ 11 ∷ 14 ∷ 19 ∷ 22 ∷ 28 ∷ 32 ∷ 40 ∷ 44 ∷ 47 ∷ 51 ∷ 63 ∷ 67 ∷ 72 ∷ 79 ∷ []) i 0
+-- the name of the types of a kind
+unfoldable pub nameOfKind : ℕ → Bytes
+nameOfKind k = cond (eqb k anyLetter) (text "Any") (cond (eqb k nullLetter) (text "Null") (cond (eqb k boolLetter) (text "Bool") (cond (eqb k intLetter) (text "Int") (cond (eqb k floatLetter) (text "Float") (cond (eqb k numLetter) (text "Num") (cond (eqb k stringLetter) (text "String") (cond (eqb k dateLetter) (text "Date") (cond (eqb k datetimeLetter) (text "Datetime") (cond (eqb k listLetter) (text "List") (cond (eqb k mapLetter) (text "Map") (cond (eqb k nodeLetter) (text "Node") (cond (eqb k relationshipLetter) (text "Relationship") (cond (eqb k pathLetter) (text "Path") (cond (eqb k unionLetter) (text "Union") (text "Unknown")))))))))))))))
 
 -- the name of every type of this kind stands at n, and r is behind it
 abbrev pub NameWritten : Bytes → Bytes → ℕ → ℕ → ℕ → Type 0

@@ -50,7 +50,7 @@ pub use merging::name_len;
 pub use merging::next_name;
 pub use merging::take;
 pub use merging::taken;
-pub use names::append_type_name;
+pub use names::type_name;
 pub use reader::is_name;
 pub use reader::is_type_line;
 pub use reader::read_relationship;

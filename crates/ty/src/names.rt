@@ -1,55 +1,43 @@
 // Type names (type_name in infer.rs).
-ghost use mathlib.Core.Path.{_≡_};
-ghost use Prim.Native.Nat.{_+_, _≤_, _<_, _^_};
-ghost use lib.ListN.{length};
-ghost use lib.Seq.{sets, slice};
-ghost use Rattle.ty.specs.Kind.{SomeKind, nameEnd, NameWritten};
+ghost use Prim.Native.Nat.{_+_, _<_, _^_};
+ghost use Rattle.ty.specs.Kind.{SomeKind, NameWritten};
 use crate::letters::ANY;
-
-// Where each name begins and ends, in the order of the kind letters.
-const NAME_ENDS: [usize; 17] = [
-    0,
-    3,
-    7,
-    11,
-    14,
-    19,
-    22,
-    28,
-    32,
-    40,
-    44,
-    47,
-    51,
-    63,
-    67,
-    72,
-    79,
-];
-
-pub fn name_end(i: usize) -> usize
-    requires { ⌜ i < 17 ⌝ }
-    ensures { λ r. ⌜ r ≡ nameEnd i ⌝ }
-{
-    NAME_ENDS[i]
-}
-
-// Appends the part [a..e) of a text.
-fn append_part(out: &mut [u8], fill: usize, t: &[u8], a: usize, e: usize) -> usize
-    requires { ⌜ (a ≤ e) × (e ≤ length (now t)) × (fill + length (slice a e (now t)) < 2 ^ 64) ⌝ }
-    ensures { λ r. ⌜ (r ≡ fill + length (slice a e (now (t .entry)))) × (now (out .exit) ≡ sets (now (out .entry)) fill (slice a e (now (t .entry)))) ⌝ }
-{
-    text::append(out, fill, &t[a..e])
-}
+use crate::letters::BOOL;
+use crate::letters::DATE;
+use crate::letters::DATETIME;
+use crate::letters::FLOAT;
+use crate::letters::INT;
+use crate::letters::LIST;
+use crate::letters::MAP;
+use crate::letters::NODE;
+use crate::letters::NULL;
+use crate::letters::NUM;
+use crate::letters::PATH;
+use crate::letters::RELATIONSHIP;
+use crate::letters::STRING;
+use crate::letters::UNION;
 
 // Appends the name of the types of kind k.
-pub fn append_type_name(out: &mut [u8], fill: usize, k: u8) -> usize
+pub fn type_name(out: &mut [u8], fill: usize, k: u8) -> usize
     requires { ⌜ (fill + 12 < 2 ^ 64) × SomeKind k ⌝ }
     ensures { λ r. ⌜ NameWritten (now (out .entry)) (now (out .exit)) fill k r ⌝ }
 {
-    let names = b"AnyNullBoolIntFloatNumStringDateDatetimeListMapNodeRelationshipPathUnionUnknown";
-    let i = (k - ANY) as usize;
-    let a = name_end(i);
-    let e = name_end(i + 1);
-    append_part(out, fill, names, a, e)
+    match k {
+        ANY => text::append(out, fill, b"Any"),
+        NULL => text::append(out, fill, b"Null"),
+        BOOL => text::append(out, fill, b"Bool"),
+        INT => text::append(out, fill, b"Int"),
+        FLOAT => text::append(out, fill, b"Float"),
+        NUM => text::append(out, fill, b"Num"),
+        STRING => text::append(out, fill, b"String"),
+        DATE => text::append(out, fill, b"Date"),
+        DATETIME => text::append(out, fill, b"Datetime"),
+        LIST => text::append(out, fill, b"List"),
+        MAP => text::append(out, fill, b"Map"),
+        NODE => text::append(out, fill, b"Node"),
+        RELATIONSHIP => text::append(out, fill, b"Relationship"),
+        PATH => text::append(out, fill, b"Path"),
+        UNION => text::append(out, fill, b"Union"),
+        _ => text::append(out, fill, b"Unknown"),
+    }
 }

@@ -21,31 +21,31 @@ slice-aggregate-fault-code c = search needs
 fault-code-requires : tie.Need-fault-code-requires
 fault-code-requires c κs = inl (c .before .before .pre .2)
 
-slice-aggregate-append-type-name : tie.Need-slice-aggregate-append-type-name
-slice-aggregate-append-type-name c = search needs
+slice-aggregate-type-name : tie.Need-slice-aggregate-type-name
+slice-aggregate-type-name c = search needs
 
-append-type-name-requires : tie.Need-append-type-name-requires
-append-type-name-requires c κs = search needs
+type-name-requires : tie.Need-type-name-requires
+type-name-requires c κs = search needs
 
 array-share-prefix-body : tie.Need-array-share-prefix-body
 array-share-prefix-body c =
     let st = c .before .before .before .before .before .before .before .before in
     let k = st .pre .3 in
-    let b = told (st .args .code) (k .ty) (st .pre .2) (c .before .before .before .before .before .fault-code .ensures) (wrote (typeName (k .ty)) (c .before .before .append-type-name .ensures (k .ty) (k .is))) in
+    let b = told (st .args .code) (k .ty) (st .pre .2) (c .before .before .before .before .before .fault-code .ensures) (wrote (typeName (k .ty)) (c .before .before .type-name .ensures (k .ty) (k .is))) in
     omega (arith, b .inside)
 
 slice-aggregate-fault-line : tie.Need-slice-aggregate-fault-line
 slice-aggregate-fault-line c =
     let st = c .before .before .before .before .before .before .before .before .before in
     let k = st .pre .3 in
-    let b = told (st .args .code) (k .ty) (st .pre .2) (c .before .before .before .before .before .before .fault-code .ensures) (wrote (typeName (k .ty)) (c .before .before .before .append-type-name .ensures (k .ty) (k .is))) in
+    let b = told (st .args .code) (k .ty) (st .pre .2) (c .before .before .before .before .before .before .fault-code .ensures) (wrote (typeName (k .ty)) (c .before .before .before .type-name .ensures (k .ty) (k .is))) in
     omega (arith, b .size)
 
 fault-line-requires : tie.Need-fault-line-requires
 fault-line-requires c κs =
     let st = c .before .before .before .before .before .before .before .before .before in
     let k = st .pre .3 in
-    let b = told (st .args .code) (k .ty) (st .pre .2) (c .before .before .before .before .before .before .fault-code .ensures) (wrote (typeName (k .ty)) (c .before .before .before .append-type-name .ensures (k .ty) (k .is))) in
+    let b = told (st .args .code) (k .ty) (st .pre .2) (c .before .before .before .before .before .before .fault-code .ensures) (wrote (typeName (k .ty)) (c .before .before .before .type-name .ensures (k .ty) (k .is))) in
     (omega (arith, b .size, b .inside), st .pre .1)
 
 same-length : tie.Need-same-length
@@ -54,7 +54,7 @@ same-length c = search needs
 returns : tie.Need-returns
 returns c u e =
     let st = c .before .before .before .before .before .before .before .before .before .before .before .before in
-    let b = told (st .args .code) u (st .pre .2) (c .before .before .before .before .before .before .before .before .before .fault-code .ensures) (wrote (typeName u) (c .before .before .before .before .before .before .append-type-name .ensures u e)) in
+    let b = told (st .args .code) u (st .pre .2) (c .before .before .before .before .before .before .before .before .before .fault-code .ensures) (wrote (typeName u) (c .before .before .before .before .before .before .type-name .ensures u e)) in
     c .before .before .fault-line .ensures (codeFault (st .args .code) u) (sym (b .is))
 
 pub fault-spec : {M : Type 1} → statement M
@@ -63,8 +63,8 @@ fault-spec =
     (tie.spec
     slice-aggregate-fault-code
     fault-code-requires
-    slice-aggregate-append-type-name
-    append-type-name-requires
+    slice-aggregate-type-name
+    type-name-requires
     array-share-prefix-body
     slice-aggregate-fault-line
     fault-line-requires

@@ -39,11 +39,11 @@ slice-aggregate-put c = search needs
 put-requires : tie.Need-put-requires
 put-requires c κs = omega (arith, c .before .before .before .before .before .fault-code .ensures .short, c .before .before .append-name .ensures .0, name-short (builtinOf (c .before .before .before .before .before .before .before .before .args .row)))
 
-slice-aggregate-append-type-name : tie.Need-slice-aggregate-append-type-name
-slice-aggregate-append-type-name c = search needs
+slice-aggregate-type-name : tie.Need-slice-aggregate-type-name
+slice-aggregate-type-name c = search needs
 
-append-type-name-requires : tie.Need-append-type-name-requires
-append-type-name-requires c κs =
+type-name-requires : tie.Need-type-name-requires
+type-name-requires c κs =
     let n = name-short (builtinOf (c .before .before .before .before .before .before .before .before .before .before .before .args .row)) in
     (omega (arith, c .before .before .before .before .before .before .before .before .fault-code .ensures .short, c .before .before .before .before .before .append-name .ensures .0, n, c .before .before .put .ensures .0), c .before .before .before .before .before .before .before .before .before .before .before .pre .3)
 
@@ -54,20 +54,20 @@ put-requires-2 : tie.Need-put-requires-2
 put-requires-2 c κs =
     let n = name-short (builtinOf (c .before .before .before .before .before .before .before .before .before .before .before .before .before .before .args .row)) in
     let k = c .before .before .before .before .before .before .before .before .before .before .before .before .before .before .pre .3 in
-    let t = name-end (k .ty) (wrote (typeName (k .ty)) (c .before .before .append-type-name .ensures (k .ty) (k .is))) in
+    let t = name-end (k .ty) (wrote (typeName (k .ty)) (c .before .before .type-name .ensures (k .ty) (k .is))) in
     omega (arith, c .before .before .before .before .before .before .before .before .before .before .before .fault-code .ensures .short, c .before .before .before .before .before .before .before .before .append-name .ensures .0, n, c .before .before .before .before .before .put .ensures .0, t)
 
-slice-aggregate-append-shape : tie.Need-slice-aggregate-append-shape
-slice-aggregate-append-shape c = search needs
+slice-aggregate-describe : tie.Need-slice-aggregate-describe
+slice-aggregate-describe c = search needs
 
 shape-of-requires : tie.Need-shape-of-requires
 shape-of-requires c κs = search needs
 
-append-shape-requires : tie.Need-append-shape-requires
-append-shape-requires c κs =
+describe-requires : tie.Need-describe-requires
+describe-requires c κs =
     let n = name-short (builtinOf (c .before .before .before .before .before .before .before .before .before .before .before .before .before .before .before .before .before .before .args .row)) in
     let k = c .before .before .before .before .before .before .before .before .before .before .before .before .before .before .before .before .before .before .pre .3 in
-    let t = name-end (k .ty) (wrote (typeName (k .ty)) (c .before .before .before .before .before .before .append-type-name .ensures (k .ty) (k .is))) in
+    let t = name-end (k .ty) (wrote (typeName (k .ty)) (c .before .before .before .before .before .before .type-name .ensures (k .ty) (k .is))) in
     omega (arith, c .before .before .before .before .before .before .before .before .before .before .before .before .before .before .before .fault-code .ensures .short, c .before .before .before .before .before .before .before .before .before .before .before .before .append-name .ensures .0, n, c .before .before .before .before .before .before .before .before .before .put .ensures .0, t, c .before .before .before .put2 .ensures .0)
 
 array-share-prefix-body : tie.Need-array-share-prefix-body
@@ -75,8 +75,8 @@ array-share-prefix-body c =
     let b = builtinOf (c .before .before .before .before .before .before .before .before .before .before .before .before .before .before .before .before .before .before .before .before .before .args .row) in
     let d = shapeOf (c .before .before .before .shape-of .result) in
     let k = c .before .before .before .before .before .before .before .before .before .before .before .before .before .before .before .before .before .before .before .before .before .pre .3 in
-    let w = wrote (typeName (k .ty)) (c .before .before .before .before .before .before .before .before .before .append-type-name .ensures (k .ty) (k .is)) in
-    let y = told b (k .ty) d (c .before .before .before .before .before .before .before .before .before .before .before .before .before .before .before .before .before .before .fault-code .ensures) (wrote (signature b .name) (c .before .before .before .before .before .before .before .before .before .before .before .before .before .before .before .append-name .ensures)) (one 44 (c .before .before .before .before .before .before .before .before .before .before .before .before .put .ensures)) w (one 44 (c .before .before .before .before .before .before .put2 .ensures)) (wrote (describe d) (c .before .before .append-shape .ensures)) in
+    let w = wrote (typeName (k .ty)) (c .before .before .before .before .before .before .before .before .before .type-name .ensures (k .ty) (k .is)) in
+    let y = told b (k .ty) d (c .before .before .before .before .before .before .before .before .before .before .before .before .before .before .before .before .before .before .fault-code .ensures) (wrote (signature b .name) (c .before .before .before .before .before .before .before .before .before .before .before .before .before .before .before .append-name .ensures)) (one 44 (c .before .before .before .before .before .before .before .before .before .before .before .before .put .ensures)) w (one 44 (c .before .before .before .before .before .before .put2 .ensures)) (wrote (describe d) (c .before .before .describe .ensures)) in
     omega (arith, y .inside)
 
 slice-aggregate-fault-line : tie.Need-slice-aggregate-fault-line
@@ -84,8 +84,8 @@ slice-aggregate-fault-line c =
     let b = builtinOf (c .before .before .before .before .before .before .before .before .before .before .before .before .before .before .before .before .before .before .before .before .before .before .args .row) in
     let d = shapeOf (c .before .before .before .before .shape-of .result) in
     let k = c .before .before .before .before .before .before .before .before .before .before .before .before .before .before .before .before .before .before .before .before .before .before .pre .3 in
-    let w = wrote (typeName (k .ty)) (c .before .before .before .before .before .before .before .before .before .before .append-type-name .ensures (k .ty) (k .is)) in
-    let y = told b (k .ty) d (c .before .before .before .before .before .before .before .before .before .before .before .before .before .before .before .before .before .before .before .fault-code .ensures) (wrote (signature b .name) (c .before .before .before .before .before .before .before .before .before .before .before .before .before .before .before .before .append-name .ensures)) (one 44 (c .before .before .before .before .before .before .before .before .before .before .before .before .before .put .ensures)) w (one 44 (c .before .before .before .before .before .before .before .put2 .ensures)) (wrote (describe d) (c .before .before .before .append-shape .ensures)) in
+    let w = wrote (typeName (k .ty)) (c .before .before .before .before .before .before .before .before .before .before .type-name .ensures (k .ty) (k .is)) in
+    let y = told b (k .ty) d (c .before .before .before .before .before .before .before .before .before .before .before .before .before .before .before .before .before .before .before .fault-code .ensures) (wrote (signature b .name) (c .before .before .before .before .before .before .before .before .before .before .before .before .before .before .before .before .append-name .ensures)) (one 44 (c .before .before .before .before .before .before .before .before .before .before .before .before .before .put .ensures)) w (one 44 (c .before .before .before .before .before .before .before .put2 .ensures)) (wrote (describe d) (c .before .before .before .describe .ensures)) in
     omega (arith, y .size)
 
 fault-line-requires : tie.Need-fault-line-requires
@@ -93,8 +93,8 @@ fault-line-requires c κs =
     let b = builtinOf (c .before .before .before .before .before .before .before .before .before .before .before .before .before .before .before .before .before .before .before .before .before .before .args .row) in
     let d = shapeOf (c .before .before .before .before .shape-of .result) in
     let k = c .before .before .before .before .before .before .before .before .before .before .before .before .before .before .before .before .before .before .before .before .before .before .pre .3 in
-    let w = wrote (typeName (k .ty)) (c .before .before .before .before .before .before .before .before .before .before .append-type-name .ensures (k .ty) (k .is)) in
-    let y = told b (k .ty) d (c .before .before .before .before .before .before .before .before .before .before .before .before .before .before .before .before .before .before .before .fault-code .ensures) (wrote (signature b .name) (c .before .before .before .before .before .before .before .before .before .before .before .before .before .before .before .before .append-name .ensures)) (one 44 (c .before .before .before .before .before .before .before .before .before .before .before .before .before .put .ensures)) w (one 44 (c .before .before .before .before .before .before .before .put2 .ensures)) (wrote (describe d) (c .before .before .before .append-shape .ensures)) in
+    let w = wrote (typeName (k .ty)) (c .before .before .before .before .before .before .before .before .before .before .type-name .ensures (k .ty) (k .is)) in
+    let y = told b (k .ty) d (c .before .before .before .before .before .before .before .before .before .before .before .before .before .before .before .before .before .before .before .fault-code .ensures) (wrote (signature b .name) (c .before .before .before .before .before .before .before .before .before .before .before .before .before .before .before .before .append-name .ensures)) (one 44 (c .before .before .before .before .before .before .before .before .before .before .before .before .before .put .ensures)) w (one 44 (c .before .before .before .before .before .before .before .put2 .ensures)) (wrote (describe d) (c .before .before .before .describe .ensures)) in
     (omega (arith, y .size, y .inside), c .before .before .before .before .before .before .before .before .before .before .before .before .before .before .before .before .before .before .before .before .before .before .pre .1)
 
 same-length : tie.Need-same-length
@@ -104,8 +104,8 @@ returns : tie.Need-returns
 returns c u e s q =
     let b = builtinOf (c .before .before .before .before .before .before .before .before .before .before .before .before .before .before .before .before .before .before .before .before .before .before .before .before .before .args .row) in
     let d = shapeOf (c .before .before .before .before .before .before .before .shape-of .result) in
-    let w = wrote (typeName u) (c .before .before .before .before .before .before .before .before .before .before .before .before .before .append-type-name .ensures u e) in
-    let y = told b u d (c .before .before .before .before .before .before .before .before .before .before .before .before .before .before .before .before .before .before .before .before .before .before .fault-code .ensures) (wrote (signature b .name) (c .before .before .before .before .before .before .before .before .before .before .before .before .before .before .before .before .before .before .before .append-name .ensures)) (one 44 (c .before .before .before .before .before .before .before .before .before .before .before .before .before .before .before .before .put .ensures)) w (one 44 (c .before .before .before .before .before .before .before .before .before .before .put2 .ensures)) (wrote (describe d) (c .before .before .before .before .before .before .append-shape .ensures)) in
+    let w = wrote (typeName u) (c .before .before .before .before .before .before .before .before .before .before .before .before .before .type-name .ensures u e) in
+    let y = told b u d (c .before .before .before .before .before .before .before .before .before .before .before .before .before .before .before .before .before .before .before .before .before .before .fault-code .ensures) (wrote (signature b .name) (c .before .before .before .before .before .before .before .before .before .before .before .before .before .before .before .before .before .before .before .append-name .ensures)) (one 44 (c .before .before .before .before .before .before .before .before .before .before .before .before .before .before .before .before .put .ensures)) w (one 44 (c .before .before .before .before .before .before .before .before .before .before .put2 .ensures)) (wrote (describe d) (c .before .before .before .before .before .before .describe .ensures)) in
     let g : d ≡ s = only (c .before .before .before .before .before .before .before .shape-of .ensures .0 ∙ q) in
     c .before .before .fault-line .ensures (E5012 b u s) (ap (λ (z : ArgShape). faultText (E5012 b u z)) (sym g) ∙ sym (y .is))
 
@@ -119,13 +119,13 @@ fault-call-spec =
     append-name-requires
     slice-aggregate-put
     put-requires
-    slice-aggregate-append-type-name
-    append-type-name-requires
+    slice-aggregate-type-name
+    type-name-requires
     slice-aggregate-put-2
     put-requires-2
-    slice-aggregate-append-shape
+    slice-aggregate-describe
     shape-of-requires
-    append-shape-requires
+    describe-requires
     array-share-prefix-body
     slice-aggregate-fault-line
     fault-line-requires

@@ -24,11 +24,11 @@ slice-aggregate-fault-code c = search needs
 fault-code-requires : tie.Need-fault-code-requires
 fault-code-requires c κs = inr (inl refl)
 
-slice-aggregate-append-type-name : tie.Need-slice-aggregate-append-type-name
-slice-aggregate-append-type-name c = search needs
+slice-aggregate-type-name : tie.Need-slice-aggregate-type-name
+slice-aggregate-type-name c = search needs
 
-append-type-name-requires : tie.Need-append-type-name-requires
-append-type-name-requires c κs = search needs
+type-name-requires : tie.Need-type-name-requires
+type-name-requires c κs = search needs
 
 slice-aggregate-put : tie.Need-slice-aggregate-put
 slice-aggregate-put c = search needs
@@ -36,23 +36,23 @@ slice-aggregate-put c = search needs
 put-requires : tie.Need-put-requires
 put-requires c κs =
     let k = c .before .before .before .before .before .before .before .before .pre .2 in
-    omega (arith, c .before .before .before .before .before .fault-code .ensures .short, name-end (k .ty) (wrote (typeName (k .ty)) (c .before .before .append-type-name .ensures (k .ty) (k .is))))
+    omega (arith, c .before .before .before .before .before .fault-code .ensures .short, name-end (k .ty) (wrote (typeName (k .ty)) (c .before .before .type-name .ensures (k .ty) (k .is))))
 
-slice-aggregate-append-type-name-2 : tie.Need-slice-aggregate-append-type-name-2
-slice-aggregate-append-type-name-2 c = search needs
+slice-aggregate-type-name-2 : tie.Need-slice-aggregate-type-name-2
+slice-aggregate-type-name-2 c = search needs
 
-append-type-name-requires-2 : tie.Need-append-type-name-requires-2
-append-type-name-requires-2 c κs =
+type-name-requires-2 : tie.Need-type-name-requires-2
+type-name-requires-2 c κs =
     let k = c .before .before .before .before .before .before .before .before .before .before .before .pre .2 in
-    let n = name-end (k .ty) (wrote (typeName (k .ty)) (c .before .before .before .before .before .append-type-name .ensures (k .ty) (k .is))) in
+    let n = name-end (k .ty) (wrote (typeName (k .ty)) (c .before .before .before .before .before .type-name .ensures (k .ty) (k .is))) in
     (omega (arith, c .before .before .before .before .before .before .before .before .fault-code .ensures .short, n, c .before .before .put .ensures .0), c .before .before .before .before .before .before .before .before .before .before .before .pre .3)
 
 array-share-prefix-body : tie.Need-array-share-prefix-body
 array-share-prefix-body c =
     let k = c .before .before .before .before .before .before .before .before .before .before .before .before .before .before .pre .2 in
     let e = c .before .before .before .before .before .before .before .before .before .before .before .before .before .before .pre .3 in
-    let w = wrote (typeName (k .ty)) (c .before .before .before .before .before .before .before .before .append-type-name .ensures (k .ty) (k .is)) in
-    let x = wrote (typeName (e .ty)) (c .before .before .append-type-name2 .ensures (e .ty) (e .is)) in
+    let w = wrote (typeName (k .ty)) (c .before .before .before .before .before .before .before .before .type-name .ensures (k .ty) (k .is)) in
+    let x = wrote (typeName (e .ty)) (c .before .before .type-name2 .ensures (e .ty) (e .is)) in
     let b = told (k .ty) (e .ty) (c .before .before .before .before .before .before .before .before .before .before .before .fault-code .ensures) w (one 44 (c .before .before .before .before .before .put .ensures)) x in
     omega (arith, b .inside)
 
@@ -60,8 +60,8 @@ slice-aggregate-fault-line : tie.Need-slice-aggregate-fault-line
 slice-aggregate-fault-line c =
     let k = c .before .before .before .before .before .before .before .before .before .before .before .before .before .before .before .pre .2 in
     let e = c .before .before .before .before .before .before .before .before .before .before .before .before .before .before .before .pre .3 in
-    let w = wrote (typeName (k .ty)) (c .before .before .before .before .before .before .before .before .before .append-type-name .ensures (k .ty) (k .is)) in
-    let x = wrote (typeName (e .ty)) (c .before .before .before .append-type-name2 .ensures (e .ty) (e .is)) in
+    let w = wrote (typeName (k .ty)) (c .before .before .before .before .before .before .before .before .before .type-name .ensures (k .ty) (k .is)) in
+    let x = wrote (typeName (e .ty)) (c .before .before .before .type-name2 .ensures (e .ty) (e .is)) in
     let b = told (k .ty) (e .ty) (c .before .before .before .before .before .before .before .before .before .before .before .before .fault-code .ensures) w (one 44 (c .before .before .before .before .before .before .put .ensures)) x in
     omega (arith, b .size)
 
@@ -69,8 +69,8 @@ fault-line-requires : tie.Need-fault-line-requires
 fault-line-requires c κs =
     let k = c .before .before .before .before .before .before .before .before .before .before .before .before .before .before .before .pre .2 in
     let e = c .before .before .before .before .before .before .before .before .before .before .before .before .before .before .before .pre .3 in
-    let w = wrote (typeName (k .ty)) (c .before .before .before .before .before .before .before .before .before .append-type-name .ensures (k .ty) (k .is)) in
-    let x = wrote (typeName (e .ty)) (c .before .before .before .append-type-name2 .ensures (e .ty) (e .is)) in
+    let w = wrote (typeName (k .ty)) (c .before .before .before .before .before .before .before .before .before .type-name .ensures (k .ty) (k .is)) in
+    let x = wrote (typeName (e .ty)) (c .before .before .before .type-name2 .ensures (e .ty) (e .is)) in
     let b = told (k .ty) (e .ty) (c .before .before .before .before .before .before .before .before .before .before .before .before .fault-code .ensures) w (one 44 (c .before .before .before .before .before .before .put .ensures)) x in
     (omega (arith, b .size, b .inside), c .before .before .before .before .before .before .before .before .before .before .before .before .before .before .before .pre .1)
 
@@ -79,8 +79,8 @@ same-length c = search needs
 
 returns : tie.Need-returns
 returns c u v e f =
-    let w = wrote (typeName u) (c .before .before .before .before .before .before .before .before .before .before .before .before .append-type-name .ensures u e) in
-    let x = wrote (typeName v) (c .before .before .before .before .before .before .append-type-name2 .ensures v f) in
+    let w = wrote (typeName u) (c .before .before .before .before .before .before .before .before .before .before .before .before .type-name .ensures u e) in
+    let x = wrote (typeName v) (c .before .before .before .before .before .before .type-name2 .ensures v f) in
     let b = told u v (c .before .before .before .before .before .before .before .before .before .before .before .before .before .before .before .fault-code .ensures) w (one 44 (c .before .before .before .before .before .before .before .before .before .put .ensures)) x in
     c .before .before .fault-line .ensures (E2012 u v) (sym (b .is))
 
@@ -90,12 +90,12 @@ fault-in-spec =
     (tie.spec
     slice-aggregate-fault-code
     fault-code-requires
-    slice-aggregate-append-type-name
-    append-type-name-requires
+    slice-aggregate-type-name
+    type-name-requires
     slice-aggregate-put
     put-requires
-    slice-aggregate-append-type-name-2
-    append-type-name-requires-2
+    slice-aggregate-type-name-2
+    type-name-requires-2
     array-share-prefix-body
     slice-aggregate-fault-line
     fault-line-requires

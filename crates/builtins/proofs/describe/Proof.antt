@@ -1,4 +1,4 @@
--- `append_shape`: by the arms. Assumes nothing.
+-- `describe`: by the arms. Assumes nothing.
 use borrow.Author.Needs.{needs}
 use native.Mathlib.Omega.{arith}
 use Prim.Native.Nat.{ℕ, _≤_}
@@ -7,10 +7,10 @@ use Rattle.semantics.specs.Bytes.{text}
 use Rattle.semantics.specs.Builtins.{describe}
 use Rattle.builtins.specs.Rows.{shapeOf}
 use Rattle.builtins.proofs.Laws.{shape-last}
-use Rattle.builtins.proofs.append_shape.Statement.{statement}
-use Rattle.builtins.proofs.append_shape.Tie as tie
-use Rattle.builtins.proofs.append_shape.Reads as reads
-use Rattle.builtins.proofs.append_shape.Lts as lts
+use Rattle.builtins.proofs.describe.Statement.{statement}
+use Rattle.builtins.proofs.describe.Tie as tie
+use Rattle.builtins.proofs.describe.Reads as reads
+use Rattle.builtins.proofs.describe.Lts as lts
 use Rattle.text.proofs.append.Reads as append-reads
 
 past : (n : ℕ) → (n ≡ 0 → ⊥) → (n ≡ 1 → ⊥) → (n ≡ 2 → ⊥) → (n ≡ 3 → ⊥) → (n ≡ 4 → ⊥) → (n ≡ 5 → ⊥) → 6 ≤ n
@@ -110,8 +110,8 @@ returns-7 c =
     let r = c .before .before .before .before .before .match .rest in
     rw (shape-last n (past n (r .0 .0 .0 .0 .0 .1) (r .0 .0 .0 .0 .1) (r .0 .0 .0 .1) (r .0 .0 .1) (r .0 .1) (r .1))) (c .before .before .append7 .ensures)
 
-pub append-shape-spec : {M : Type 1} → statement M
-append-shape-spec =
+pub describe-spec : {M : Type 1} → statement M
+describe-spec =
     tie.close
     (tie.spec
     slice-aggregate-append
