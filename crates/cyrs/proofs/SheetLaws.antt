@@ -50,13 +50,13 @@ call-chosen s work out = refl
 roomed : Bytes → Bytes → Bytes → Bool → Settled
 roomed b work out c = elim c [ true ↦ cleared 7 0 work out | false ↦ answered b work out ]
 
-settled-roomed : (b work out : Bytes) → settled (accepted b) work out ≡ roomed b work out (ltb (length out) (length b))
+settled-roomed : (ts : List Top) (work out : Bytes) → settled (accepted ts) work out ≡ roomed (report ts) work out (ltb (length out) (length (report ts)))
 unfolding settled roomed
-settled-roomed b work out = refl
+settled-roomed ts work out = refl
 
 -- the tests of types
 by-clauses : Option ℕ → List Top → Outcome
-by-clauses none ts = accepted (report ts)
+by-clauses none ts = accepted ts
 by-clauses (some l) ts = refusal 6 l
 
 limited-is : (t : Option ℕ) (hs : List Head) → limited t hs ≡ by-clauses t (typing hs)
@@ -208,7 +208,7 @@ module _ (s work out : Bytes) (ask : (length s ≤ sheetLimit) × (length work �
           record {
             long = x .0;
             output = x .1;
-            call = by-test ∙ ap (λ (t : Option ℕ). settled (by-clauses t tops) work out) et ∙ settled-roomed (report tops) work out;
+            call = by-test ∙ ap (λ (t : Option ℕ). settled (by-clauses t tops) work out) et ∙ settled-roomed tops work out;
           }
       go (some k) et x = absurd x
 
@@ -262,7 +262,7 @@ second-zero s work out = ap (λ (x : Settled). x .second) (call-chosen s work ou
 
     by-outcome : (x : Outcome) → settled x work out .second ≡ 0
     by-outcome (refusal c n) = refl
-    by-outcome (accepted b) = by-room b (ltb (length out) (length b))
+    by-outcome (accepted ts) = by-room (report ts) (ltb (length out) (length (report ts)))
 
     by-lengths : (c d : Bool) → chosen s work out c d .second ≡ 0
     by-lengths true d = refl

@@ -87,23 +87,32 @@ chain-agrees ok tr f (link {hs = hs′} {ks = ks′} a b x c) hs ks p q =
 -- ## The reports
 
 -- the report of a sheet that was read
-limited-report : (hs : List Head) (o : Option ℕ) (x : Bytes) → limited o hs ≡ accepted x → x ≡ report (typing hs)
+limited-tops : (hs : List Head) (o : Option ℕ) (ts : List Top) → limited o hs ≡ accepted ts → ts ≡ typing hs
 unfolding limited
-limited-report hs none x e = let f : accepted (report (typing hs)) ≡ accepted x = e in cc
-limited-report hs (some n) x e = let f : refusal 6 n ≡ accepted x = e in cc
+limited-tops hs none ts e = let f : accepted (typing hs) ≡ accepted ts = e in cc
+limited-tops hs (some n) ts e = let f : refusal 6 n ≡ accepted ts = e in cc
 
-accepted-is : (s x : Bytes) → outcome s ≡ accepted x → (hs : List Head) × (sheet depthLimit s ≡ heads hs) × (x ≡ report (typing hs))
+accepted-tops : (s : Bytes) (ts : List Top) → outcome s ≡ accepted ts → (hs : List Head) × (sheet depthLimit s ≡ heads hs) × (ts ≡ typing hs)
 unfolding outcome
-accepted-is s x e = go (sheet depthLimit s) refl e
+accepted-tops s ts e = go (sheet depthLimit s) refl e
   where
-    go : (q : Sheet) → sheet depthLimit s ≡ q → judged q ≡ accepted x → (hs : List Head) × (sheet depthLimit s ≡ heads hs) × (x ≡ report (typing hs))
-    go (refused c n) p e = unfold judged in (let f : refusal c n ≡ accepted x = e in let z : _≡_ {A = ℕ} 0 1 = cc in absurd (omega arith))
-    go (heads hs) p e = (hs, p, unfold judged in limited-report hs _ x e)
+    go : (q : Sheet) → sheet depthLimit s ≡ q → judged q ≡ accepted ts → (hs : List Head) × (sheet depthLimit s ≡ heads hs) × (ts ≡ typing hs)
+    go (refused c n) p e = unfold judged in (let f : refusal c n ≡ accepted ts = e in let z : _≡_ {A = ℕ} 0 1 = cc in absurd (omega arith))
+    go (heads hs) p e = (hs, p, unfold judged in limited-tops hs _ ts e)
+
+-- the top expressions that an accepted sheet's report tells
+pub record Shown (s x : Bytes) : Type 0 where
+  pub tops : List Top
+  pub outcome : outcome s ≡ accepted tops
+  pub text : x ≡ report tops
+
+accepted-is : (s x : Bytes) → Shown s x → (hs : List Head) × (sheet depthLimit s ≡ heads hs) × (x ≡ report (typing hs))
+accepted-is s x w = let (hs, p, e) = accepted-tops s (w .tops) (w .outcome) in (hs, p, w .text ∙ ap report e)
 
 -- no refusal has the number 0
 limited-cause : (o : Option ℕ) (hs : List Head) (c n : ℕ) → limited o hs ≡ refusal c n → c ≡ 0 → ⊥
 unfolding limited
-limited-cause none hs c n e z = let f : accepted (report (typing hs)) ≡ refusal c n = e in let y : _≡_ {A = ℕ} 0 1 = cc in omega arith
+limited-cause none hs c n e z = let f : accepted (typing hs) ≡ refusal c n = e in let y : _≡_ {A = ℕ} 0 1 = cc in omega arith
 limited-cause (some m) hs c n e z = let f : refusal 6 m ≡ refusal c n = e in let y : 6 ≡ c = cc in omega arith
 
 outcome-cause : (s : Bytes) (c n : ℕ) → outcome s ≡ refusal c n → c ≡ 0 → ⊥
@@ -127,33 +136,37 @@ called : (s work out : Bytes) (o : Outcome) → ltb sheetLimit (length s) ≡ fa
 unfolding sheetCall
 called s work out o p q e = rw (p, q, sheetCall) (ap (λ z. settled z work out) e)
 
-too-short : (x work out : Bytes) → ltb (length out) (length x) ≡ true → settled (accepted x) work out ≡ cleared 7 0 work out
+too-short : (ts : List Top) (work out : Bytes) → ltb (length out) (length (report ts)) ≡ true → settled (accepted ts) work out ≡ cleared 7 0 work out
 unfolding settled
-too-short x work out p = rw (p, settled)
+too-short ts work out p = rw (p, settled)
 
-long-enough : (x work out : Bytes) → ltb (length out) (length x) ≡ false → settled (accepted x) work out ≡ answered x work out
+long-enough : (ts : List Top) (work out : Bytes) → ltb (length out) (length (report ts)) ≡ false → settled (accepted ts) work out ≡ answered (report ts) work out
 unfolding settled
-long-enough x work out p = rw (p, settled)
+long-enough ts work out p = rw (p, settled)
 
 -- what an accepted call shows of its outcome
-shows : (s x work out : Bytes) (o : Outcome) (c : Settled) → outcome s ≡ o → c ≡ settled o work out → c .number ≡ 0 → x ≡ take (c .first) (c .out) → outcome s ≡ accepted x
+shows : (s x work out : Bytes) (o : Outcome) (c : Settled) → outcome s ≡ o → c ≡ settled o work out → c .number ≡ 0 → x ≡ take (c .first) (c .out) → Shown s x
 shows s x work out (refusal d m) c e k n t =
     let f : settled (refusal d m) work out ≡ cleared d m work out = unfold settled in refl in
     let z : d ≡ 0 = sym (ap (λ (y : Settled). y .number) (k ∙ f)) ∙ n in
     absurd (outcome-cause s d m e z)
-shows s x work out (accepted y) c e k n t = go (ltb (length out) (length y)) refl
+shows s x work out (accepted ts) c e k n t = go (ltb (length out) (length (report ts))) refl
   where
-    go : (b : Bool) → ltb (length out) (length y) ≡ b → outcome s ≡ accepted x
-    go true p = let z : _≡_ {A = ℕ} 7 0 = sym (ap (λ (w : Settled). w .number) (k ∙ too-short y work out p)) ∙ n in absurd (omega arith)
+    go : (b : Bool) → ltb (length out) (length (report ts)) ≡ b → Shown s x
+    go true p = let z : _≡_ {A = ℕ} 7 0 = sym (ap (λ (w : Settled). w .number) (k ∙ too-short ts work out p)) ∙ n in absurd (omega arith)
     go false p =
-        let f : c ≡ answered y work out = k ∙ long-enough y work out p in
-        e ∙ ap accepted (sym (t ∙ ap (λ (w : Settled). take (w .first) (w .out)) f ∙ take-append-seam y (drop (length y) out)))
+        let f : c ≡ answered (report ts) work out = k ∙ long-enough ts work out p in
+        record {
+          tops = ts;
+          outcome = e;
+          text = t ∙ ap (λ (w : Settled). take (w .first) (w .out)) f ∙ take-append-seam (report ts) (drop (length (report ts)) out);
+        }
 
-pub reports-outcome : {s x : Bytes} → Reports s x → outcome s ≡ accepted x
+pub reports-outcome : {s x : Bytes} → Reports s x → Shown s x
 reports-outcome {s} {x} r = go (r .work) (r .out) (ltb sheetLimit (length s)) (eqb (length (r .work)) workSize) refl refl (r .accepts) (r .text)
   where
     go : (work out : Bytes) (a b : Bool) → ltb sheetLimit (length s) ≡ a → eqb (length work) workSize ≡ b
-        → sheetCall s work out .number ≡ 0 → x ≡ take (sheetCall s work out .first) (sheetCall s work out .out) → outcome s ≡ accepted x
+        → sheetCall s work out .number ≡ 0 → x ≡ take (sheetCall s work out .first) (sheetCall s work out .out) → Shown s x
     go work out true b p q n t = let z : _≡_ {A = ℕ} 1 0 = sym (ap (λ (w : Settled). w .number) (sheet-too-long s work out p)) ∙ n in absurd (omega arith)
     go work out false false p q n t = let z : _≡_ {A = ℕ} 2 0 = sym (ap (λ (w : Settled). w .number) (work-wrong s work out p q)) ∙ n in absurd (omega arith)
     go work out false true p q n t = shows s x work out (outcome s) (sheetCall s work out) refl (called s work out (outcome s) p q refl) n t

@@ -120,7 +120,7 @@ results-alike {ks = ks} l = rw (bound-alike l) (walk-alike l (envOf ks) 1)
 
 limited-alike : (hs ks : List Head) → typing hs ≡ typing ks → (o : Option ℕ) → limited o hs ≡ limited o ks
 unfolding limited
-limited-alike hs ks e none = ap (λ ts. accepted (report ts)) e
+limited-alike hs ks e none = ap accepted e
 limited-alike hs ks e (some n) = refl
 
 outcome-alike : (s t : Bytes) {hs ks : List Head} → sheet depthLimit s ≡ heads hs → sheet depthLimit t ≡ heads ks → Each Alike hs ks → outcome s ≡ outcome t

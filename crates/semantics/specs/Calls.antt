@@ -70,11 +70,11 @@ reportLines ts = topLines ts (endLine ts ∷ [])
 unfoldable pub report : List Top → Bytes
 report ts = unlines (reportLines ts)
 
--- ## A sheet's outcome, whatever is lent: refused with 3 to 6, or its report
+-- ## A sheet's outcome, whatever is lent: refused with 3 to 6, or its top expressions
 
 pub data Outcome : Type 0 where
   refusal : ℕ → ℕ → Outcome
-  accepted : Bytes → Outcome
+  accepted : List Top → Outcome
 
 -- the line of the first test that is too large
 unfoldable pub firstLarge : List (ℕ × Ty) → Option ℕ
@@ -82,7 +82,7 @@ firstLarge [] = none
 firstLarge ((n, t) ∷ ts) = elim (tooLarge t) [ true ↦ some n | false ↦ firstLarge ts ]
 
 unfoldable pub limited : Option ℕ → List Head → Outcome
-limited none hs = accepted (report (typing hs))
+limited none hs = accepted (typing hs)
 limited (some n) hs = refusal typeTooLarge n
 
 unfoldable pub judged : Sheet → Outcome
@@ -101,7 +101,7 @@ refusedText c n = text "refused," ++ (shown c ++ (comma ∷ (shown n ++ (lineFee
 -- of an outcome, with so much room for a report
 unfoldable pub outcomeText : ℕ → Outcome → Bytes
 outcomeText room (refusal c n) = refusedText c n
-outcomeText room (accepted s) = elim (ltb room (length s)) [ true ↦ refusedText outputTooShort 0 | false ↦ s ]
+outcomeText room (accepted ts) = let s = report ts in elim (ltb room (length s)) [ true ↦ refusedText outputTooShort 0 | false ↦ s ]
 
 -- of a sheet
 unfoldable pub sheetText : ℕ → Bytes → Bytes
@@ -141,7 +141,7 @@ parted a b work out = record { number = mismatched; first = length a; second = l
 
 unfoldable pub settled : Outcome → Bytes → Bytes → Settled
 settled (refusal c n) work out = cleared c n work out
-settled (accepted s) work out = elim (ltb (length out) (length s)) [ true ↦ cleared outputTooShort 0 work out | false ↦ answered s work out ]
+settled (accepted ts) work out = let s = report ts in elim (ltb (length out) (length s)) [ true ↦ cleared outputTooShort 0 work out | false ↦ answered s work out ]
 
 -- order for a sheet: 1, 2, the whole sheet read, 6, 7
 unfoldable pub sheetCall : Bytes → Bytes → Bytes → Settled
