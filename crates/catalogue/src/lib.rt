@@ -1,6 +1,7 @@
 // The type catalogue (RULES 10.4, ask 12): enter, release and look up types in a lent store.
 mod find;
 mod form;
+mod layout;
 mod number;
 mod tally;
 
@@ -9,7 +10,7 @@ ghost use Prim.Native.Nat.{ℕ, _+_, _≤_, _<_};
 ghost use lib.ListN.{length};
 ghost use lib.Seq.{slice};
 ghost use Rattle.semantics.specs.Ty.{typeLine};
-ghost use Rattle.catalogue.specs.Catalogue.{Live, Catalogue, taken, stored, used, enterOld, enterNew, releaseBy, lookUpBy, Kept, Told, refuses, storeCall, entering, releasing, lookingUp};
+ghost use Rattle.catalogue.specs.Catalogue.{Live, Catalogue, storeHead, entryHead, taken, stored, used, enterOld, enterNew, releaseBy, lookUpBy, Kept, Told, refuses, storeCall, entering, releasing, lookingUp};
 ghost use mathlib.Core.Option.{some};
 ghost use Rattle.catalogue.specs.Stands.{Open, Opened, Stands, Standing, StandsTo, keptOf, keptBy, lookedBy, Looks, Looked, added, EndsAt, lookedAs};
 ghost use Rattle.catalogue.specs.Claims.{StoreCalls};
@@ -19,6 +20,11 @@ use find::find_text;
 pub use find::next_entry;
 pub use form::Checked;
 pub use form::check;
+use layout::AT_LENGTH;
+pub use layout::AT_USES;
+pub use layout::ENTRY_HEAD;
+pub use layout::STORE_HEAD;
+pub use layout::STORE_SIZE;
 pub use number::bytes16;
 pub use number::bytes32;
 use number::put16;
@@ -50,12 +56,12 @@ fn enter_old(store: &mut [u8], at: usize) -> Call
     requires { ⌜ Standing (now store) at ⌝ }
     ensures { λ r. ⌜ ((c : Catalogue) (l : Live) → Stands (now (store .entry)) c at l → keptBy r (now (store .exit)) ≡ keptOf (enterOld c l)) ⌝ }
 {
-    let uses = bytes32(store, at + 4);
+    let uses = bytes32(store, at + AT_USES);
     if uses >= USES_LIMIT {
         return refuse(semantics::COUNT_USED_UP, 0);
     }
     let number = bytes16(store, at);
-    put32(store, at + 4, uses + 1);
+    put32(store, at + AT_USES, uses + 1);
     Call {
         number: semantics::ACCEPTED,
         first: number as u64,
@@ -65,24 +71,24 @@ fn enter_old(store: &mut [u8], at: usize) -> Call
 
 // A type more, behind the others.
 fn add(store: &mut [u8], line: &[u8], number: usize, end: usize)
-    requires { ⌜ (8 ≤ end) × (end + 8 + length (now line) ≤ length (now store)) ⌝ }
+    requires { ⌜ (storeHead ≤ end) × (end + entryHead + length (now line) ≤ length (now store)) ⌝ }
     ensures { λ _. ⌜ now (store .exit) ≡ added (now (store .entry)) (now (line .entry)) number end ⌝ }
 {
     put16(store, 0, number);
     put16(store, end, number);
-    put16(store, end + 2, line.len());
-    put32(store, end + 4, 1);
-    text::append(store, end + 8, line);
+    put16(store, end + AT_LENGTH, line.len());
+    put32(store, end + AT_USES, 1);
+    text::append(store, end + ENTRY_HEAD, line);
 }
 
 fn enter_new(store: &mut [u8], line: &[u8], last: usize, end: usize) -> Call
     requires { ⌜ Opened (now store) last end ⌝ }
-    ensures { λ r. ⌜ ((c : Catalogue) → Open (now (store .entry)) c → last ≡ c .last → end ≡ 8 + taken (c .live) → keptBy r (now (store .exit)) ≡ keptOf (enterNew c (now (line .entry)))) ⌝ }
+    ensures { λ r. ⌜ ((c : Catalogue) → Open (now (store .entry)) c → last ≡ c .last → end ≡ storeHead + taken (c .live) → keptBy r (now (store .exit)) ≡ keptOf (enterNew c (now (line .entry)))) ⌝ }
 {
     if last >= NUMBER_LIMIT {
         return refuse(semantics::COUNT_USED_UP, 0);
     }
-    if store.len() - end < line.len() + 8 {
+    if store.len() - end < line.len() + ENTRY_HEAD {
         return refuse(semantics::STORE_FULL, 0);
     }
     add(store, line, last + 1, end);
@@ -100,7 +106,7 @@ fn enter_line(store: &mut [u8], line: &[u8], last: usize, end: usize) -> Call
     if !ty::is_type_line(line) {
         return refuse(semantics::NO_TYPE_LINE, 1);
     }
-    match find_text(store, 8, end, line) {
+    match find_text(store, STORE_HEAD, end, line) {
         Spot::At(at) => enter_old(store, at),
         Spot::Nothing => enter_new(store, line, last, end),
     }
@@ -131,7 +137,7 @@ fn release_at(store: &mut [u8], at: usize, end: usize) -> Call
     requires { ⌜ StandsTo (now store) at end ⌝ }
     ensures { λ r. ⌜ ((c : Catalogue) (l : Live) → Stands (now (store .entry)) c at l → keptBy r (now (store .exit)) ≡ keptOf (releaseBy c (some l))) ⌝ }
 {
-    let uses = bytes32(store, at + 4);
+    let uses = bytes32(store, at + AT_USES);
     if uses == 1 {
         remove(store, at, end);
         return Call {
@@ -140,7 +146,7 @@ fn release_at(store: &mut [u8], at: usize, end: usize) -> Call
             second: 0,
         };
     }
-    put32(store, at + 4, uses - 1);
+    put32(store, at + AT_USES, uses - 1);
     Call {
         number: semantics::ACCEPTED,
         first: (uses - 1) as u64,
@@ -152,7 +158,7 @@ fn release_number(store: &mut [u8], number: u64, end: usize) -> Call
     requires { ⌜ EndsAt (now store) end ⌝ }
     ensures { λ r. ⌜ keptBy r (now (store .exit)) ≡ storeCall (now (store .entry)) (releasing number) ⌝ }
 {
-    match find_number(store, 8, end, number) {
+    match find_number(store, STORE_HEAD, end, number) {
         Spot::At(at) => release_at(store, at, end),
         Spot::Nothing => refuse(semantics::NOT_LIVE, 0),
     }
@@ -190,13 +196,13 @@ fn no_line(number: u32) -> Line
 fn line_at(store: &[u8], at: usize) -> Line
     requires { ⌜ Standing (now store) at ⌝ }
     ensures { λ r. ⌜ ((c : Catalogue) (l : Live) → Stands (now (store .entry)) c at l → Looks (keptOf (lookUpBy c (some l))) r (now (store .entry)))
-        × (r .at ≡ at + 8) ⌝ }
+        × (r .at ≡ at + entryHead) ⌝ }
 {
     Line {
         number: semantics::ACCEPTED,
-        at: at + 8,
+        at: at + ENTRY_HEAD,
         end: next_entry(store, at),
-        uses: bytes32(store, at + 4) as u64,
+        uses: bytes32(store, at + AT_USES) as u64,
     }
 }
 
@@ -204,7 +210,7 @@ fn line_number(store: &[u8], number: u64, end: usize) -> Line
     requires { ⌜ EndsAt (now store) end ⌝ }
     ensures { λ r. ⌜ Looked (now (store .entry)) number r ⌝ }
 {
-    match find_number(store, 8, end, number) {
+    match find_number(store, STORE_HEAD, end, number) {
         Spot::At(at) => line_at(store, at),
         Spot::Nothing => no_line(semantics::NOT_LIVE),
     }

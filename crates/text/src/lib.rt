@@ -8,6 +8,7 @@ ghost use mathlib.Core.List.{_++_, map};
 ghost use Prim.Native.Nat.{_+_, _*_, _≤_, _<_, _^_};
 ghost use lib.ListN.{length, take, drop, getD, set, replicate};
 ghost use lib.Seq.{sets, slice};
+ghost use Rattle.semantics.specs.Codes.{comma, lineFeed};
 ghost use Rattle.semantics.specs.Bytes.{lex, same, digit?, unhex, decimal, digits};
 ghost use Rattle.semantics.specs.Builtins.{lower, folded};
 ghost use Rattle.text.specs.Text.{orderOf, hex?, digitOf, some?, grown, decOf, Ends, rotated};
@@ -328,7 +329,7 @@ pub fn seek(s: &[u8], at: usize, b: u8) -> usize
 // Where the field at `at` ends: its comma, or the end of the slice.
 pub fn field_end(s: &[u8], at: usize) -> usize
     requires { ⌜ at ≤ length (now s) ⌝ }
-    ensures { λ r. ⌜ Ends 44 (now (s .entry)) at r ⌝ }
+    ensures { λ r. ⌜ Ends comma (now (s .entry)) at r ⌝ }
 {
     seek(s, at, COMMA)
 }
@@ -336,7 +337,7 @@ pub fn field_end(s: &[u8], at: usize) -> usize
 // Where the line at `at` ends: its LF, or the end of the slice.
 pub fn line_end(s: &[u8], at: usize) -> usize
     requires { ⌜ at ≤ length (now s) ⌝ }
-    ensures { λ r. ⌜ Ends 10 (now (s .entry)) at r ⌝ }
+    ensures { λ r. ⌜ Ends lineFeed (now (s .entry)) at r ⌝ }
 {
     seek(s, at, LINE_END)
 }

@@ -1,4 +1,5 @@
 // Label sets merged (LabelSet in ty.rs, unify_label_sets in unify.rs).
+ghost use Rattle.semantics.specs.Limits.{typeLimit};
 ghost use Rattle.ty.specs.Merging.{SomeLabels, MergedLabels};
 ghost use Prim.Native.Nat.{_+_, _≤_};
 ghost use lib.ListN.{length};
@@ -12,7 +13,7 @@ use crate::merging::taken;
 
 // The labels of the node types at a and b, merged, as a node type at `to`.
 pub fn merge_labels(s: &mut [u8], a: usize, b: usize, to: usize) -> Grown
-    requires { ⌜ SomeLabels (now s) a to × SomeLabels (now s) b to × (to + 1024 ≤ length (now s)) ⌝ }
+    requires { ⌜ SomeLabels (now s) a to × SomeLabels (now s) b to × (to + typeLimit ≤ length (now s)) ⌝ }
     ensures { λ r. ⌜ MergedLabels (now (s .entry)) (now (s .exit)) a b to r ⌝ }
 {
     text::copy_in(s, a, to, 4);

@@ -2,6 +2,7 @@
 ghost use mathlib.Core.Path.{_≡_};
 ghost use Prim.Native.Nat.{_+_, _≤_, _<_, _^_};
 ghost use lib.ListN.{length};
+ghost use Rattle.semantics.specs.Limits.{typeLimit};
 ghost use Rattle.ty.specs.Merging.{SomeHead, NextIs, SomeName, NameLong, keptOf, keptText, takenAt, moved, Taking, closedOf, closedText};
 use crate::Grown;
 use crate::letters::CLOSE;
@@ -62,7 +63,7 @@ pub fn kept(n: usize, k: usize) -> usize
 
 // Keeps the bytes [from..from + k) at the end of the line of n bytes at `to`, if there is room.
 pub fn keep(s: &mut [u8], from: usize, k: usize, to: usize, n: usize) -> usize
-    requires { ⌜ (from + k ≤ to) × (to + 1024 ≤ length (now s)) × (n ≤ 1022) ⌝ }
+    requires { ⌜ (from + k ≤ to) × (to + typeLimit ≤ length (now s)) × (n ≤ 1022) ⌝ }
     ensures { λ r. ⌜ (r ≡ keptOf n k) × (now (s .exit) ≡ keptText (now (s .entry)) from k to n) ⌝ }
 {
     let r = kept(n, k);
@@ -110,7 +111,7 @@ pub fn take(s: &mut [u8], m: Merge, next: u8, k: usize, to: usize) -> Merge
 
 // `!,` behind the n bytes at `to`, if they are not over.
 pub fn close_line(s: &mut [u8], to: usize, n: usize) -> Grown
-    requires { ⌜ (to + 1024 ≤ length (now s)) × (n ≤ 1022) ⌝ }
+    requires { ⌜ (to + typeLimit ≤ length (now s)) × (n ≤ 1022) ⌝ }
     ensures { λ r. ⌜ (r ≡ closedOf n) × (now (s .exit) ≡ closedText (now (s .entry)) to n) ⌝ }
 {
     if n == 0 {

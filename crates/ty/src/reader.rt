@@ -21,6 +21,7 @@ ghost use mathlib.Core.Bool.{true};
 ghost use Prim.Native.Nat.{ℕ, _+_, _≤_, _<_, _^_};
 ghost use lib.ListN.{length, getD};
 ghost use lib.Seq.{slice};
+ghost use Rattle.semantics.specs.Codes.{mapLetter, unionLetter};
 ghost use Rattle.text.specs.Text.{some?};
 ghost use Rattle.semantics.specs.Ty.{typeLine};
 ghost use Rattle.ty.specs.Read.{fieldAt, letterAt, contentOf, inOrder, nameIn, keyOf, allowed, endOf, LabelsRead, NodeRead, RelRead, TypeRead};
@@ -63,7 +64,7 @@ fn in_order(s: &[u8], a: usize, ae: usize, b: usize, be: usize, n: usize) -> boo
 // Whether the name at q, after n names, the last at prev, may stand there.
 fn name_allowed(s: &[u8], prev: usize, q: usize, n: usize) -> bool
     requires { ⌜ (prev ≤ length (now s)) × (q ≤ length (now s)) ⌝ }
-    ensures { λ r. ⌜ r ≡ allowed 75 (now (s .entry)) prev q q n ⌝ }
+    ensures { λ r. ⌜ r ≡ allowed mapLetter (now (s .entry)) prev q q n ⌝ }
 {
     let e = text::field_end(s, q);
     if !is_name(s, q, e) {
@@ -75,7 +76,7 @@ fn name_allowed(s: &[u8], prev: usize, q: usize, n: usize) -> bool
 // Whether the member [q..e), after n members, the last at [prev..q), may stand there.
 fn member_allowed(s: &[u8], prev: usize, q: usize, e: usize, n: usize) -> bool
     requires { ⌜ (prev ≤ q) × (q < e) × (e ≤ length (now s)) ⌝ }
-    ensures { λ r. ⌜ r ≡ allowed 79 (now (s .entry)) prev q e n ⌝ }
+    ensures { λ r. ⌜ r ≡ allowed unionLetter (now (s .entry)) prev q e n ⌝ }
 {
     if s[q] == UNION {
         return false;

@@ -2,11 +2,15 @@
 ghost use mathlib.Core.List.{[]};
 ghost use Prim.Native.Nat.{_+_, _≤_, _<_, _^_};
 ghost use lib.ListN.{length};
+ghost use Rattle.catalogue.specs.Catalogue.{storeHead, storeSize};
 ghost use Rattle.catalogue.specs.Places.{Laid};
 ghost use Rattle.catalogue.specs.Stands.{Opened};
 ghost use Rattle.report.specs.Report.{Appends};
 ghost use Rattle.typestore.specs.Answers.{lineText, Says, Lines, Lists};
 use crate::answer::Said;
+use catalogue::AT_USES;
+use catalogue::ENTRY_HEAD;
+use catalogue::STORE_HEAD;
 use text::COMMA;
 use text::LINE_END;
 
@@ -32,17 +36,17 @@ pub fn live_line(out: &mut [u8], fill: usize, number: u64, uses: u64, line: &[u8
 }
 
 fn lines(store: &[u8], end: usize, out: &mut [u8]) -> Listed
-    requires { ⌜ Laid (now store) 8 end × (end ≤ 65536) ⌝ }
+    requires { ⌜ Laid (now store) storeHead end × (end ≤ storeSize) ⌝ }
     ensures { λ r. ⌜ Lines (now (store .entry)) end (now (out .entry)) (now (out .exit)) r ⌝ }
 {
-    let mut at = 8;
+    let mut at = STORE_HEAD;
     let mut fill = 0;
     let mut types = 0;
     while at < end {
         let next = catalogue::next_entry(store, at);
         let number = catalogue::bytes16(store, at) as u64;
-        let uses = catalogue::bytes32(store, at + 4) as u64;
-        fill = live_line(out, fill, number, uses, &store[at + 8..next]);
+        let uses = catalogue::bytes32(store, at + AT_USES) as u64;
+        fill = live_line(out, fill, number, uses, &store[at + ENTRY_HEAD..next]);
         types += 1;
         at = next;
     }

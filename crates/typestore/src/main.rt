@@ -7,6 +7,7 @@ use answer::Said;
 use answer::enter;
 use answer::release;
 use answer::show;
+use catalogue::STORE_SIZE;
 use libc::STDERR_FILENO;
 use libc::STDOUT_FILENO;
 use list::list;
@@ -30,10 +31,8 @@ enum Read {
     Failed,
 }
 
-const STORE_SIZE: usize = 65536;
-
 // One byte more: a longer file fills it, and is refused.
-const STORE_ROOM: usize = 65537;
+const STORE_ROOM: usize = STORE_SIZE + 1;
 
 // One byte more than a type line has: a longer one fills it, and is refused.
 const LINE_ROOM: usize = 1025;

@@ -4,6 +4,7 @@ ghost use mathlib.Core.Path.{_≡_};
 ghost use Prim.Native.Nat.{_+_, _<_, _^_};
 ghost use lib.ListN.{length, set};
 ghost use lib.Seq.{sets};
+ghost use Rattle.semantics.specs.Codes.{lineFeed};
 ghost use Rattle.writer.specs.Written.{written, lineText};
 use text::LINE_END;
 
@@ -38,7 +39,7 @@ pub fn write<'a, 't>(w: Writer<'a>, t: &'t [u8]) -> Writer<'a>
 // Ends the line: the output is given back, and its fill told.
 pub fn end_line<'a>(w: Writer<'a>) -> usize
     requires { ⌜ w .fill + 1 < 2 ^ 64 ⌝ }
-    ensures { λ r. ⌜ (r ≡ w .entry .fill + 1) × (now (w .exit .0) ≡ set (now (w .entry .out)) (w .entry .fill) 10) ⌝ }
+    ensures { λ r. ⌜ (r ≡ w .entry .fill + 1) × (now (w .exit .0) ≡ set (now (w .entry .out)) (w .entry .fill) lineFeed) ⌝ }
 {
     let fill = w.fill;
     text::put(&mut *w.out, fill, LINE_END)
