@@ -20,6 +20,7 @@ pub mod report;
 pub mod self_check;
 pub mod sheet;
 pub mod shrink;
+pub mod stated;
 pub mod type_line;
 pub mod validation;
 pub mod vectors;

@@ -3,7 +3,7 @@
 use cyrs_harness::differential::{self, Kind};
 use cyrs_harness::library::{self, Library, NOT_LINKED};
 use cyrs_harness::{
-    bench, catalogue, exchange, external, facts, old, self_check, validation, vectors,
+    bench, catalogue, exchange, external, facts, old, self_check, stated, validation, vectors,
 };
 use std::env;
 use std::path::Path;
@@ -152,6 +152,8 @@ fn write_vectors(folder: &str) -> Result<bool, String> {
     let (sheets, pairs) =
         vectors::write(Path::new(folder)).map_err(|e| format!("{folder}: {e}"))?;
     println!("{sheets} sheets and {pairs} pairs written");
+    let stated = stated::write(Path::new(folder)).map_err(|e| format!("{folder}: {e}"))?;
+    println!("{stated} stated cases written");
     let lines = old::vectors::write(Path::new(folder)).map_err(|e| format!("{folder}: {e}"))?;
     println!("{lines} old type lines written");
     let stores =

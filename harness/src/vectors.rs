@@ -35,7 +35,7 @@ fn is_plain(case: &Case) -> bool {
 }
 
 /// One answer: what went in, and what came out.
-#[derive(Debug, PartialEq, Eq)]
+#[derive(Debug, Clone, PartialEq, Eq)]
 pub struct Answer {
     pub case_number: u32,
     pub first: u64,
@@ -78,7 +78,11 @@ pub fn answer(case: &Case) -> Answer {
 }
 
 fn write_case(case: &Case, text: &mut Vec<u8>) {
-    let answer = answer(case);
+    stated_text(case, &answer(case), text);
+}
+
+/// Puts a case with this answer behind the text of a file.
+pub(crate) fn stated_text(case: &Case, answer: &Answer, text: &mut Vec<u8>) {
     let (number, first, second) = (answer.case_number, answer.first, answer.second);
     let (header, parts) = match case {
         Case::Sheet { sheet, work, out } => (

@@ -6,6 +6,7 @@ use cyrs_harness::library::{linked, NOT_LINKED};
 use cyrs_harness::limits::WORK_BYTES;
 use cyrs_harness::old::vectors as old;
 use cyrs_harness::old::vectors::OLD_FILE;
+use cyrs_harness::stated::{self, stated_cases, STATED_FILE};
 use cyrs_harness::vectors::{answer, file_text, read, PAIRS_FILE, SHEETS_FILE};
 use std::collections::BTreeSet;
 use std::fs;
@@ -37,7 +38,12 @@ fn replay(file: &str) -> BTreeSet<u32> {
 fn replay_input() {
     let path = Path::new(env!("CARGO_MANIFEST_DIR")).join("../crates/replay/stdin");
     let input = fs::read(&path).unwrap_or_else(|e| panic!("{}: {e}", path.display()));
-    assert!(input == [SHEETS_FILE, PAIRS_FILE, OLD_FILE].map(stored).concat());
+    assert!(
+        input
+            == [SHEETS_FILE, PAIRS_FILE, OLD_FILE, STATED_FILE]
+                .map(stored)
+                .concat()
+    );
 }
 
 #[test]
@@ -50,6 +56,25 @@ fn sheets() {
 fn pairs() {
     let numbers: Vec<u32> = replay(PAIRS_FILE).into_iter().collect();
     assert_eq!(numbers, [0, 2, 6, 7, 8, 9]);
+}
+
+/// The stated answers are the reference's too, and the file holds them all.
+#[test]
+fn stated_answers() {
+    assert!(stored(STATED_FILE) == stated::file_text());
+    let cases = stated_cases();
+    assert_eq!(cases.len(), 1_340);
+    let mut numbers = BTreeSet::new();
+    for (i, stated) in cases.iter().enumerate() {
+        assert_eq!(
+            answer(&stated.case),
+            stated.answer,
+            "{STATED_FILE}, case {i}"
+        );
+        numbers.insert(stated.answer.case_number);
+    }
+    let numbers: Vec<u32> = numbers.into_iter().collect();
+    assert_eq!(numbers, [0, 1, 2, 3, 4, 5, 6, 7, 8, 9]);
 }
 
 #[test]

@@ -18,7 +18,8 @@ use Rattle.report.specs.Report.{faultsText}
 use Rattle.report.proofs.ReportLaws.{faults-short}
 use Rattle.hir.specs.Lines.{Met, all-met, meets}
 use Rattle.hir.proofs.LinesLaws.{Inner, AllIn, none-in, one-in, inner-under}
-use Rattle.walk_run.proofs.LevelsWalk.{Pairs, no-pairs, pairing, pairs-take, pairs-drop}
+use Rattle.walk_run.specs.Depth.{Pairs, no-pairs, pairing}
+use Rattle.walk_run.proofs.LevelsWalk.{pairs-take, pairs-drop}
 use Rattle.bounds.specs.Sizes.{total, sizes}
 
 -- ## The faults of a line

@@ -13,8 +13,8 @@ use Rattle.semantics.proofs.Words.{every}
 use Rattle.semantics.proofs.All.{All, empty, also}
 use Rattle.hir.specs.Lines.{Met, all-met, meets}
 use Rattle.hir.proofs.LinesLaws.{Inner, AllIn, none-in, one-in, inner-under}
-use Rattle.walk_run.specs.Depth.{levels, greatest, rise, height}
-use Rattle.walk_run.proofs.LevelsWalk.{Pairs, no-pairs, pairing, pairs-take, greatest-low, step-levels, walk-levels}
+use Rattle.walk_run.specs.Depth.{levels, greatest, rise, height, Pairs, no-pairs, pairing}
+use Rattle.walk_run.proofs.LevelsWalk.{pairs-take, greatest-low, step-levels, walk-levels}
 use Rattle.bounds.proofs.Growth.{all-in, under-many}
 
 -- ## What a line adds to the height

@@ -1,3 +1,4 @@
 pub mod Growth
 pub mod Heights
 pub mod Rooms
+pub mod Claim

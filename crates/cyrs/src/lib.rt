@@ -8,7 +8,7 @@ ghost use Prim.Native.Nat.{_+_, _≤_};
 ghost use lib.ListN.{length};
 ghost use lib.Seq.{slice};
 ghost use Rattle.semantics.specs.Calls.{sheetCall, unifyCall};
-ghost use Rattle.old.specs.Old.{regularCall};
+ghost use Rattle.old_lines.specs.Old.{regularCall};
 ghost use Rattle.cyrs.specs.Call.{settledBy};
 ghost use Rattle.cyrs.specs.Checking.{checkedBy, checkCall};
 ghost use Rattle.catalogue.specs.Catalogue.{storeCall, entering, releasing, lookingUp, placeOf};

@@ -36,8 +36,9 @@ use Rattle.hir.specs.Lines.{LineAt, Lines, no-line, a-line, Met}
 use Rattle.line.proofs.KnownLaws.{same-place}
 use Rattle.hir.proofs.LinesLaws.{Inner, read-at}
 use Rattle.hir.proofs.PlaceLaws.{classOf, class-is}
-use Rattle.tops.specs.Tops.{outTops}
-use Rattle.tops.proofs.TopsLaws.{topOf, Standing, stand-some, stand-end, out-end, Skipped, stand-skip, Typed, stand-expr}
+use Rattle.tops.specs.Tops.{topOf, outTops}
+use Rattle.tops.specs.Standing.{Standing, Skipped, Typed}
+use Rattle.tops.proofs.TopsLaws.{stand-some, stand-end, out-end, stand-skip, stand-expr}
 use Rattle.ty.specs.Parts.{TypeAt}
 use Rattle.report.specs.Report.{faultsText, typeText, topsText, endText, Appends, Adds}
 use Rattle.report.specs.declared.Tally.{Tally}

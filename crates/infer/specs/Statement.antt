@@ -12,7 +12,7 @@ use Rattle.semantics.specs.Walk.{Env, Top, walk, allTests}
 use Rattle.semantics.specs.Calls.{firstLarge, report}
 use Rattle.hir.specs.Lines.{Lines}
 use Rattle.tops.specs.Tops.{outTops}
-use Rattle.tops.proofs.TopsLaws.{Standing}
+use Rattle.tops.specs.Standing.{Standing}
 use Rattle.infer.specs.Steps.{EnvAs}
 use Rattle.infer.specs.declared.step.Env.{Env as Binds}
 use Rattle.infer.specs.declared.walk.Cur.{Cur}

@@ -9,7 +9,7 @@ use Rattle.semantics.specs.Limits.{typeLimit}
 use Rattle.semantics.specs.Codes.{comma, listLetter}
 use Rattle.semantics.specs.Bytes.{Bytes, hex}
 use Rattle.semantics.specs.Ty.{Ty, tList, tMap, Fields, line, regular, tooLarge}
-use Rattle.semantics.proofs.Regular.{Sorted}
+use Rattle.semantics.specs.Regular.{Sorted}
 use Rattle.ty.specs.Parts.{linesOf, TypeAt}
 use Rattle.ty.specs.Union.{overlong}
 use Rattle.unify.specs.Work.{slots}

@@ -19,15 +19,15 @@ use Rattle.unify_run.proofs.Size.{small-sound}
 use Rattle.text.specs.Text.{some?}
 use Rattle.text.proofs.Laws.{sets-parts}
 use Rattle.ty.specs.Parts.{TypeAt}
-use Rattle.old.specs.Old.{oldOutput, oldLine, made, regularOf, regularCall}
+use Rattle.old_lines.specs.Old.{oldOutput, oldLine, made, regularOf, regularCall}
 use Rattle.old.specs.declared.Answer.{Answer}
 use Rattle.old.specs.declared.Answer.the-variants.{Done, Large}
 use Rattle.old.specs.declared.call.Outcome.{Outcome}
 use Rattle.old.specs.Make.{MadeAs, OldAt, MakesAt}
 use Rattle.old.specs.Call.{settledBy, refusedBy, doneBy, SomeOld, Settles}
 use Rattle.old.proofs.MakeLoop.{answer-done, answer-large}
-use Rattle.old.proofs.OldLine.{old-sound}
-use Rattle.old.proofs.Theorem.{regular-old}
+use Rattle.old_lines.proofs.Theorem.{regular-old}
+use Rattle.old_lines.proofs.Sound.{old-sound, call-of, of-type, call-answers}
 
 -- ## Refusals
 
@@ -54,29 +54,18 @@ module _ (s work out : Bytes) (size : length work ≡ workSize) where
       settles-cleared (regularCall s work out) work out out′ 7 (λ y. omega arith) (rw (eq-eqb (length work) workSize size, lt-ltb (length out) oldOutput h, regularCall)) r z
 
   module _ (room : oldOutput ≤ length out) where
-    call-of : regularCall s work out ≡ regularOf (oldLine s) work out
-    unfolding regularCall
-    call-of = rw (eq-eqb (length work) workSize size, le-ltb (length out) oldOutput room, regularCall)
-
     pub call-bad : (b : Bool) → b ≡ some? (oldLine s) → not b ≡ true → (out′ : Bytes) (r : Outcome) → r ≡ refusedBy 12 → Settles (regularCall s work out) work out out′ r
     unfolding regularOf
-    call-bad b f n out′ r z = settles-cleared (regularCall s work out) work out out′ 12 (λ y. omega arith) (call-of ∙ go (oldLine s) (sym (not-true b n) ∙ f)) r z
+    call-bad b f n out′ r z = settles-cleared (regularCall s work out) work out out′ 12 (λ y. omega arith) (call-of s work out size room ∙ go (oldLine s) (sym (not-true b n) ∙ f)) r z
       where
         go : (o : Option Ty) → false ≡ some? o → regularOf o work out ≡ cleared 12 0 work out
         go none e = refl
         go (some t) e = absurd (false≢true e)
 
     module _ (t : Ty) (e : oldLine s ≡ some t) where
-      of-type : regularCall s work out ≡ regularOf (some t) work out
-      of-type = call-of ∙ ap (λ (o : Option Ty). regularOf o work out) e
-
       pub call-large : tooLarge (made t) ≡ true → (out′ : Bytes) (r : Outcome) → r ≡ refusedBy 6 → Settles (regularCall s work out) work out out′ r
       unfolding regularOf
-      call-large b out′ r z = settles-cleared (regularCall s work out) work out out′ 6 (λ y. omega arith) (of-type ∙ rw (b, regularOf)) r z
-
-      pub call-answers : tooLarge (made t) ≡ false → regularCall s work out ≡ answered (line (made t)) work out
-      unfolding regularOf
-      call-answers b = of-type ∙ rw (b, regularOf)
+      call-large b out′ r z = settles-cleared (regularCall s work out) work out out′ 6 (λ y. omega arith) (of-type s work out size room t e ∙ rw (b, regularOf)) r z
 
       pub call-done : tooLarge (made t) ≡ false → (out′ : Bytes) → out′ ≡ sets out 0 (line (made t)) → (n : ℕ) → n ≡ length (line (made t))
           → Settles (regularCall s work out) work out out′ (record { number = 0; first = n })
@@ -84,7 +73,7 @@ module _ (s work out : Bytes) (size : length work ≡ workSize) where
       call-done b out′ f n z =
           let x = line (made t) in
           let small = small-sound (made t) b .0 in
-          let e = call-answers b in
+          let e = call-answers s work out size room t e b in
           let w : sets out 0 x ≡ written x out = sets-parts out 0 x (omega arith) ∙ ap (λ (j : ℕ). x ++ drop j out) (zero-add (length x)) in
           record {
             number = sym (ap (λ (y : Settled). y .number) e);

@@ -1,8 +1,3 @@
-pub mod Made
-pub mod Alike
-pub mod Told
-pub mod Theorem
-pub mod Examples
 pub mod Entered
 pub mod OldReads
 pub mod OldFlat
@@ -16,4 +11,3 @@ pub mod EntryDepth
 pub mod Lent
 pub mod MakeLoop
 pub mod CallLaws
-pub mod ClaimLaws

@@ -32,14 +32,14 @@ use Rattle.ty.proofs.Inner.{closed, not-closed}
 use Rattle.ty.proofs.Loops.{value-bounds}
 use Rattle.ty.proofs.Members.{union-line, members-pack, line-long}
 use Rattle.ty.proofs.UnionGrows.{overlong-large}
-use Rattle.old.specs.Old.{distinct, distinctNames, distinctNamesS, distinctNamesF, made, madeS, madeF}
+use Rattle.old_lines.specs.Old.{distinct, distinctNames, distinctNamesS, distinctNamesF, made, madeS, madeF}
 use Rattle.old.specs.Read.{Within, endOf}
 use Rattle.old.specs.declared.Answer.{Answer}
 use Rattle.old.specs.declared.Answer.the-variants.{Done, Large}
 use Rattle.old.specs.Make.{madeBy, MadeAs, OldAt, MakesAt, Acc, opening, listed, mapped, united, accKind, AccAt, joinedBy, accLarge, accLong, accType, startOf, StartedAs, Join, SomeJoin, JoinedAs, Joins, Ending, SomeEnding, endedBy}
 use Rattle.old.specs.Make.{Ends as Ended}
-use Rattle.old.proofs.Alike.{first-true, second-true}
-use Rattle.old.proofs.Made.{inserts-append}
+use Rattle.old_lines.proofs.Alike.{first-true, second-true}
+use Rattle.old_lines.proofs.Made.{inserts-append}
 use Rattle.old.proofs.Answers.{grown-len, grown-large}
 use Rattle.ty.proofs.Lent.{putBack, put-long, type-up}
 use Rattle.old.proofs.Lent.{acc-stays}

@@ -31,7 +31,7 @@ use Rattle.ty.proofs.Places.{past, part, byte-past, byte-at}
 use Rattle.ty.proofs.Skips.{type-inside}
 use Rattle.ty.proofs.Fields.{contentT, content-kind, type-byte, type-two, name-part}
 use Rattle.ty.proofs.EntryLaws.{front-from, tested-fits, tested-large}
-use Rattle.old.specs.Old.{made, madeLabels}
+use Rattle.old_lines.specs.Old.{made, madeLabels}
 use Rattle.old.specs.Read.{Within}
 use Rattle.old.specs.declared.Answer.{Answer}
 use Rattle.old.specs.declared.Answer.the-variants.{Done, Large}

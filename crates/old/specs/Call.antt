@@ -5,7 +5,7 @@ use mathlib.Core.Option.{some}
 use Rattle.semantics.specs.Bytes.{Bytes}
 use Rattle.semantics.specs.Ty.{Ty}
 use Rattle.semantics.specs.Calls.{Settled, zeros}
-use Rattle.old.specs.Old.{oldLine}
+use Rattle.old_lines.specs.Old.{oldLine}
 use Rattle.old.specs.declared.call.Outcome.{Outcome}
 
 -- a call's outcome as one value

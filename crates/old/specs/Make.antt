@@ -10,7 +10,7 @@ use Rattle.semantics.specs.Codes.{comma as commaByte, listLetter, mapLetter, un
 use Rattle.semantics.specs.Limits.{nestingLimit, typeLimit}
 use Rattle.semantics.specs.Bytes.{Bytes, hex}
 use Rattle.semantics.specs.Ty.{tUnknown, Ty, base, tList, tMap, tNode, Fields, ∅ᶠ, nameTo, namesTo, lineTo, line, nesting, tooLarge, inserts, opened, joined, setField, insertName, insertNames, ascending}
-use Rattle.semantics.proofs.Named.{Name, Names}
+use Rattle.semantics.specs.Named.{Name, Names}
 use Rattle.ty.specs.Parts.{linesOf, TypeAt}
 use Rattle.ty.specs.Union.{TypesAt, overlong}
 use Rattle.ty.specs.Entry.{Entering}
@@ -18,7 +18,7 @@ use Rattle.ty.specs.Read.{contentOf}
 use Rattle.ty.specs.Made.{Made as Stands, made as grownBy}
 use Rattle.ty.specs.declared.Grown.{Grown}
 use Rattle.ty.specs.declared.Grown.the-variants.{Len, TooLarge}
-use Rattle.old.specs.Old.{made}
+use Rattle.old_lines.specs.Old.{made}
 use Rattle.old.specs.Read.{Within}
 use Rattle.old.specs.declared.labels.LabelSpot.{LabelSpot}
 use Rattle.old.specs.declared.labels.LabelSpot.the-variants.{New, There}

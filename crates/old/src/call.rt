@@ -7,8 +7,7 @@ ghost use Prim.Native.Nat.{_≤_};
 ghost use lib.ListN.{length};
 ghost use lib.Seq.{sets};
 ghost use Rattle.semantics.specs.Limits.{workSize};
-ghost use Rattle.old.specs.Old.{regularCall};
-ghost use Rattle.old.specs.Claims.{RegularLines};
+ghost use Rattle.old_lines.specs.Old.{regularCall};
 ghost use Rattle.old.specs.Call.{settledBy, refusedBy, doneBy, SomeOld, Settles};
 
 // Bytes of output that the call asks for (cause 7).
@@ -90,11 +89,4 @@ pub fn regular_line(s: &[u8], work: &mut [u8], out: &mut [u8]) -> Outcome
     }
     text::clear(out);
     c
-}
-
-// The place of the claims about `regularCall`.
-pub fn lines_agree() -> bool
-    ensures { λ r. ⌜ RegularLines ⌝ }
-{
-    true
 }

@@ -5,7 +5,6 @@ mod making;
 mod reader;
 
 pub use call::Outcome;
-pub use call::lines_agree;
 pub use call::regular_line;
 
 // Where the old type ends and how long the regular one is, or that it is too large.

@@ -7,7 +7,7 @@ use lib.ListN.{length, replicate}
 use lib.Dec.{eqb, leb, ltb}
 use Rattle.semantics.specs.Bytes.{Bytes}
 use Rattle.semantics.specs.Calls.{Settled, sheetCall, unifyCall}
-use Rattle.old.specs.Old.{regularCall}
+use Rattle.old_lines.specs.Old.{regularCall}
 use Rattle.cyrs.specs.Call.{settledBy}
 use Rattle.cyrs.specs.declared.unifying.Call.{Call}
 use Rattle.replay.specs.declared.Want.{Want}

@@ -5,7 +5,7 @@ ghost use mathlib.Core.Path.{_≡_};
 ghost use Prim.Native.Nat.{_≤_, _<_};
 ghost use lib.ListN.{length, replicate};
 ghost use Rattle.semantics.specs.Calls.{sheetCall, unifyCall};
-ghost use Rattle.old.specs.Old.{regularCall};
+ghost use Rattle.old_lines.specs.Old.{regularCall};
 ghost use Rattle.cyrs.specs.Call.{settledBy};
 ghost use Rattle.replay.specs.Judged.{Decides, Judges};
 ghost use Rattle.replay.specs.Stored.{filled, workByte, outByte, Answers, storedBy, Agrees};
@@ -16,7 +16,7 @@ const WORK_FILL: u8 = 170;
 const OUT_FILL: u8 = 187;
 
 // Bytes of input, and one more.
-const ROOM: usize = 1310720;
+const ROOM: usize = 2097152;
 
 enum Kind {
     Sheet,

@@ -1,4 +1,9 @@
-// This crate is here for its statement (specs/Reword.antt) and its proof; the function is the place where the check starts.
-pub fn rewordings_agree() -> bool {
+// Rewordings (RULES 8): demand 3 and secrecy. The statements are in specs/Reword.antt; this function promises both.
+ghost use Rattle.rewording.specs.Reword.{DemandThree, Secrecy};
+
+// The place of the claims.
+pub fn rewordings_agree() -> bool
+    ensures { λ _. ⌜ DemandThree × Secrecy ⌝ }
+{
     true
 }

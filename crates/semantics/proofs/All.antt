@@ -3,10 +3,7 @@ use mathlib.Core.List.{List, [], _∷_, _++_, map}
 use mathlib.Core.Bool.{Bool, true, false}
 use Prim.Native.Nat.{ℕ, suc, zero}
 use lib.ListN.{getD, take, drop}
-
-pub data All {A : Type 0} (P : A → Type 0) : List A → Type 0 where
-  empty : All P []
-  also : {x : A} {xs : List A} → P x → All P xs → All P (x ∷ xs)
+pub use Rattle.semantics.specs.All.{All, empty, also}
 
 pub all-weaken : {A : Type 0} {P Q : A → Type 0} → ((x : A) → P x → Q x) → {xs : List A} → All P xs → All Q xs
 all-weaken f empty = empty

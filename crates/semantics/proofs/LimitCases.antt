@@ -1,5 +1,5 @@
--- Sixteen cases at the limits (RULES 2, 4.6 and 7), by computation: those that a change of the definitions meets first. All the others are in
--- the crate `cases`.
+-- Sixteen cases at the limits (RULES 2, 4.6 and 7), by computation: those that a change of the definitions meets first. All the others are
+-- stored answers (harness/vectors/stated.txt).
 use mathlib.Core.Path.{refl}
 use mathlib.Core.List.{List, [], _∷_, _++_}
 use Rattle.semantics.specs.Bytes.{text}

@@ -9,6 +9,7 @@ use lib.Dec.{ltb, eqb, isEq}
 use borrow.Author.Tests.{ltb-true, ltb-false}
 use Rattle.semantics.specs.Bytes.{Bytes, lex, same, hex}
 use Rattle.semantics.specs.Ty.{Base, tAny, tNull, tBool, tInt, tFloat, tNum, tString, tDate, tDatetime, tPath, tUnknown, Ty, base, tList, tMap, tNode, tRelationship, tUnion, Tys, ∅, _⊕_, Fields, ∅ᶠ, field, letter, baseIn, bases, nameTo, namesTo, labelsTo, relTo, lineTo, membersTo, fieldsTo, line, order, equal, insert, inserts, opened, gather, joined, unite, setField}
+pub use Rattle.semantics.specs.Regular.{Less, ends, here, next}
 
 -- ## The byte order
 
@@ -52,12 +53,6 @@ compare-eq x = go (cmp x x)
     go (lt k) = absurd (omega arith)
     go (eq k) = refl
     go (gt k) = absurd (omega arith)
-
--- strictly before, in byte order
-pub data Less : Bytes → Bytes → Type 0 where
-  ends : {y : ℕ} {ys : Bytes} → Less [] (y ∷ ys)
-  here : {x y : ℕ} {xs ys : Bytes} → x < y → Less (x ∷ xs) (y ∷ ys)
-  next : {x : ℕ} {xs ys : Bytes} → Less xs ys → Less (x ∷ xs) (x ∷ ys)
 
 pub less-trans : {a b c : Bytes} → Less a b → Less b c → Less a c
 less-trans ends (here k) = ends

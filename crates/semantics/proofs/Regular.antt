@@ -11,43 +11,8 @@ use borrow.Author.Tests.{leb-true, le-leb, not-true}
 use Rattle.semantics.specs.Bytes.{Bytes, lex}
 use Rattle.semantics.specs.Ty.{Ty, base, tList, tMap, tNode, tRelationship, tUnion, Tys, ∅, _⊕_, Fields, ∅ᶠ, field, members, pack, names, line, insert, inserts, opened, gather, joined, unite, setField, insertName, insertNames, below?, ascending, union?, ascendingLabels, regular, regularS, regularF}
 use Rattle.semantics.proofs.All.{All, empty, also}
+pub use Rattle.semantics.specs.Regular.{Above, Ascends, AscendingLabels, Regular, RegularS, RegularF, Member, Sorted}
 use Rattle.semantics.proofs.Order.{Less, Tri, lt, eq, gt, tri, lex-lt, lex-gt, lex-eq, TriTy, triTy, insert-lt, insert-eq, insert-gt, set-lt, set-eq, set-gt}
-
--- ## Ascending names
-
--- before the first of these, if there is one
-abbrev pub Above : Bytes → List Bytes → Type 0
-Above a [] = Unit {0}
-Above a (b ∷ r) = Less a b
-
--- each before the next
-abbrev pub Ascends : List Bytes → Type 0
-Ascends [] = Unit {0}
-Ascends (a ∷ r) = Above a r × Ascends r
-
-abbrev pub AscendingLabels : Option (List Bytes) → Type 0
-AscendingLabels none = Unit {0}
-AscendingLabels (some ls) = Ascends ls
-
--- ## Regular types
-
--- as `regular`, `regularS` and `regularF` test it
-abbrev mutual
-  pub Regular : Ty → Type 0
-  Regular (base b) = Unit {0}
-  Regular (tList t) = Regular t
-  Regular (tMap fs) = Ascends (names fs) × RegularF fs
-  Regular (tNode ls) = AscendingLabels ls
-  Regular (tRelationship n) = Unit {0}
-  Regular (tUnion ts) = (2 ≤ length (members ts)) × Ascends (map line (members ts)) × RegularS ts
-
-  pub RegularS : Tys → Type 0
-  RegularS ∅ = Unit {0}
-  RegularS (t ⊕ ts) = (union? t ≡ false) × Regular t × RegularS ts
-
-  pub RegularF : Fields → Type 0
-  RegularF ∅ᶠ = Unit {0}
-  RegularF (field n t fs) = Regular t × RegularF fs
 
 -- ## The test and the predicate
 
@@ -181,14 +146,6 @@ names-ascend [] ms h = h
 names-ascend (n ∷ ns) ms h = names-ascend ns (insertName n ms) (name-ascends n ms h)
 
 -- ## Unions
-
--- what a union may hold
-abbrev pub Member : Ty → Type 0
-Member t = (union? t ≡ false) × Regular t
-
--- members in order
-abbrev pub Sorted : List Ty → Type 0
-Sorted ms = Ascends (map line ms) × All Member ms
 
 -- insertion by lines is insertion of the line
 lines-insert : (x : Ty) (ms : List Ty) → map line (insert x ms) ≡ insertName (line x) (map line ms)

@@ -1,5 +1,5 @@
--- Cases whose sheets and type lines are built by small functions: repeated texts, one field at a time, types of a given size.
-use mathlib.Core.List.{List, [], _++_, map}
+-- Cases whose sheets and type lines are built by small functions: repeated texts, types of a given size.
+use mathlib.Core.List.{[], _++_}
 use Prim.Native.Nat.{ℕ, suc, zero}
 use Prim.Native.String.{String}
 use lib.ListN.{length}
@@ -10,10 +10,6 @@ use Rattle.semantics.proofs.Cases.{Question, typed, unified, output, si
 abbrev pub many : ℕ → String → Bytes
 many zero s = []
 many (suc n) s = text s ++ many n s
-
-abbrev pub repeated : ℕ → Bytes → Bytes
-repeated zero s = []
-repeated (suc n) s = s ++ repeated n s
 
 -- ## Sheets
 
@@ -31,9 +27,6 @@ returning e = text "cyrs,1\nret,0,1\npro,-\n" ++ e ++ text "end\n"
 abbrev pub hasType : Bytes → Bytes → Case
 hasType e t = reportsᵇ (returning e) (text "T," ++ t ++ text "\nend,1,0\n")
 
-abbrev pub gets : String → String → Case
-gets e t = hasType (text e) (text t)
-
 abbrev pub gives : String → String → Case
 gives e r = reportsᵇ (returning (text e)) (text r)
 
@@ -42,36 +35,6 @@ stops e c n = refusesᵇ (returning e) c n
 
 abbrev pub fails : String → ℕ → ℕ → Case
 fails e c n = stops (text e) c n
-
--- ## One field at a time
-
--- a field: its line, the sheet up to it, what follows it on its line
-pub record Spot : Type 0 where
-  pub line : ℕ
-  pub before : String
-  pub after : String
-
-abbrev pub spot : ℕ → String → String → Spot
-spot n b a = record { line = n; before = b; after = a }
-
--- written so: refused at its line
-abbrev pub at : Bytes → ℕ → Spot → Case
-at f c p = refusesᵇ (text (p .before) ++ f ++ text (p .after) ++ text "\n") c (p .line)
-
--- written so, where more is to come, and then `end`: the field is taken, and the `end` line is unknown there
-abbrev pub taken : Bytes → Spot → Case
-taken f p = refusesᵇ (text (p .before) ++ f ++ text (p .after) ++ text "\nend\n") 3 (suc (p .line))
-
-abbrev pub take : String → List Spot → List Case
-take f ps = map (taken (text f)) ps
-
--- badly written: 3
-abbrev pub bad : String → List Spot → List Case
-bad f ps = map (at (text f) 3) ps
-
--- the last in the range, and the first beyond it: 4
-abbrev pub limit : String → String → List Spot → List Case
-limit within beyond ps = take within ps ++ map (at (text beyond) 4) ps
 
 -- ## Types of a given size
 
@@ -93,16 +56,6 @@ Two a b = pairOf "61" "62" a b
 abbrev pub three : ℕ → ℕ → Bytes
 three a b = text "map,3\nkey," ++ many a "61" ++ text "\nint,1\nkey," ++ many b "62" ++ text "\nint,1\nkey,63\nint,1\n"
 
-abbrev pub Three : ℕ → ℕ → Bytes
-Three a b = text "K," ++ many a "61" ++ text ",D," ++ many b "62" ++ text ",D,63,D,!,"
-
--- a map of one field d..: 7 bytes and 2 for each byte of the name; its expression has 3 lines. Beside other fields it takes 4 less
-abbrev pub one : ℕ → Bytes
-one a = text "map,1\nkey," ++ many a "64" ++ text "\nint,1\n"
-
-abbrev pub One : ℕ → Bytes
-One a = text "K," ++ many a "64" ++ text ",D,!,"
-
 -- `[null, [null, .. 1]]`, n deep: 2 lines and nesting 2 for each, and 1
 abbrev pub deep : ℕ → String → Bytes
 deep n e = many n "lis,2\nnull\n" ++ text e
@@ -112,26 +65,12 @@ Deep n t = many n "J,O,B," ++ text t ++ many n "!,"
 
 -- ## Unification
 
-abbrev pub unifiesᵇ : Bytes → Bytes → Bytes → Case
-unifiesᵇ a b t = accepts (unified a b) t
-
--- any type with Any is itself
-abbrev pub reads : Bytes → Case
-reads a = unifiesᵇ a (text "A,") a
-
 abbrev pub partsᵇ : Bytes → Bytes → Bytes → Bytes → Case
 partsᵇ a b x y = case (unified a b) 9 (length x) (length y) (wrote (x ++ y))
 
 -- two types that do not unify: the expected and the actual type
 abbrev pub parts : String → String → String → String → Case
 parts a b x y = partsᵇ (text a) (text b) (text x) (text y)
-
--- too large; no type line in this place
-abbrev pub exceeds : Bytes → Bytes → Case
-exceeds a b = case (unified a b) 6 0 0 zeroed
-
-abbrev pub unread : Bytes → Bytes → ℕ → Case
-unread a b n = case (unified a b) 8 n 0 zeroed
 
 -- ## Buffers of other lengths
 

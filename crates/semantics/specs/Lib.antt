@@ -7,3 +7,6 @@ pub mod Builtins
 pub mod Sheet
 pub mod Walk
 pub mod Calls
+pub mod All
+pub mod Named
+pub mod Regular

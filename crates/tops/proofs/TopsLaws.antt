@@ -20,7 +20,9 @@ use Rattle.hir.specs.declared.valid.Outline.{Outline}
 use Rattle.hir.proofs.KidLaws.{both}
 use Rattle.hir.proofs.TopLaws.{plain-rule}
 use Rattle.hir.proofs.LinesLaws.{met-split, Inner, AllIn, none-in, one-in, inner-under, met-walk}
-use Rattle.tops.specs.Tops.{fronts, topsFor, zipTops, outTops}
+use Rattle.tops.specs.Tops.{fronts, topsFor, topOf, zipTops, outTops}
+use Rattle.tops.specs.Standing.{Open, open-top, open-in, Standing, Skipped, Typed}
+use Rattle.tops.specs.Claims.{TopsInOrder}
 
 -- ## Places and rules
 
@@ -72,9 +74,6 @@ line-typed h e = typed-of (rule h) (is-typed (rank (place h)) (kind (rule h)) (r
 
 top-silent : (h : Head) → rank (place h) < 4 → rule h ≡ silent
 top-silent h l = line-silent h (λ d. omega arith) (λ d. omega arith)
-
-abbrev pub topOf : Res → Top
-topOf r = record { faults = r .faults; ty = r .ty }
 
 expr-top : (q : Rule) (r : Res) → kind q ≡ 2 → topsFor q r ≡ topOf r ∷ []
 unfolding topsFor
@@ -423,17 +422,6 @@ laid-out d s r x =
 
 -- ## The report's way
 
--- the wants before a line to which the report comes, all with the levels of the sheet left: places inside a clause, none of an entry, not below an expression, and last the clauses
-pub data Open (levels : ℕ) : List Want → Type 0 where
-  open-top : Open levels (clauses levels ∷ [])
-  open-in : {x : Place} {ws : List Want} → 3 < rank x → (rank x ≡ 11 → ⊥) → Open levels ws → Open levels (at x levels ∷ ws)
-
--- the report is before these lines
-pub record Standing (levels : ℕ) (hs : List Head) : Type 0 where
-  pub wants : List Want
-  pub opens : Open levels wants
-  pub met : Met wants hs []
-
 -- at the clauses
 pub stand-start : (levels : ℕ) (s : Bytes) (r : Outline) (x : Laid levels s r) → Standing levels (x .rest)
 stand-start levels s r x = record { wants = clauses levels ∷ []; opens = open-top; met = x .met }
@@ -479,12 +467,6 @@ expression p =
 between : (p : ℕ) → (2 ≤ p) × (p ≤ 3) → (p ≡ 3 → ⊥) → p ≡ 2
 between p c n = omega (arith, c .0, c .1, n)
 
--- a line that is no expression and not the end is stepped over
-pub record Skipped (levels : ℕ) (env : Env) (n : ℕ) (h : Head) (hs : List Head) : Type 0 where
-  pub next : Standing levels hs
-  pub tops : outTops env n (h ∷ hs) ≡ outTops env (suc n) hs
-  pub tests : allTests (walk env n (h ∷ hs)) ≡ allTests (walk env (suc n) hs)
-
 pub stand-skip : {levels : ℕ} (env : Env) (n : ℕ) (h : Head) (hs : List Head) → Standing levels (h ∷ hs) → (rank (place h) ≡ 13 → ⊥) → (rank (place h) ≡ 3 → ⊥) → Skipped levels env n h hs
 unfolding fits under
 stand-skip {levels = levels} env n h hs x ne nl = go (x .opens) (x .met)
@@ -508,18 +490,6 @@ stand-skip {levels = levels} env n h hs x ne nl = go (x .opens) (x .met)
         let u : under (at p levels) h ≡ map (wanted levels) (roles h) = inner-under (at p levels) h a (opened m .fits) .0 ∙ ap (λ (d : ℕ). map (wanted d) (roles h)) (same-depth levels p (λ z. ne (f ∙ z))) in
         done (at p levels) ws e m (subst (λ (z : List Want). Open levels (z ++ ws)) (sym u) (kids e y))
 
--- an expression is typed, and the report is behind its tree
-pub record Typed (levels : ℕ) (env : Env) (n : ℕ) (h : Head) (hs : List Head) (r : Res) : Type 0 where
-  pub typing : Typing
-  pub rule : rule h ≡ typed typing
-  pub left : List Head
-  pub lines : ℕ
-  pub long : length (h ∷ hs) ≡ lines + length left
-  pub met : Met (at AtExpression levels ∷ []) (h ∷ hs) left
-  pub next : Standing levels left
-  pub tops : outTops env n (h ∷ hs) ≡ topOf r ∷ outTops env (n + lines) left
-  pub tests : allTests (walk env n (h ∷ hs)) ≡ r .tests ++ allTests (walk env (n + lines) left)
-
 pub stand-expr : {levels : ℕ} (env : Env) (n : ℕ) (h : Head) (hs : List Head) → Standing levels (h ∷ hs) → rank (place h) ≡ 13 → Typed levels env n h hs (step env n h (take (arity h) (walk env (suc n) hs)))
 unfolding fits
 stand-expr {levels = levels} env n h hs x e = go (x .opens) (x .met)
@@ -542,3 +512,9 @@ stand-expr {levels = levels} env n h hs x e = go (x .opens) (x .met)
           tops = t .tops;
           tests = t .tests;
         }
+
+-- ## The claim
+
+pub tops-in-order : TopsInOrder
+tops-in-order =
+    record { starts = laid-out; stands = stand-start; skips = stand-skip; types = stand-expr; ends = λ h hs x e. (stand-end h hs x e, λ env n. out-end env n h e) }

@@ -1,1 +1,3 @@
 pub mod Tops
+pub mod Standing
+pub mod Claims

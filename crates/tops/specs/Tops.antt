@@ -16,6 +16,10 @@ topsFor silent r = r .tops
 topsFor entering r = r .tops
 topsFor (typed q) r = record { faults = r .faults; ty = r .ty } ∷ []
 
+-- what is kept of an expression
+abbrev pub topOf : Res → Top
+topOf r = record { faults = r .faults; ty = r .ty }
+
 -- trees and their results in step
 unfoldable pub zipTops : List Head → List Res → List Top
 zipTops [] rs = []

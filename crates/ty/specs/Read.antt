@@ -10,8 +10,8 @@ use Rattle.text.specs.Text.{some?}
 use Rattle.semantics.specs.Codes.{comma, closeMark, listLetter, mapLetter, nodeLetter, relationshipLetter, unionLetter}
 use Rattle.semantics.specs.Bytes.{Bytes, lex}
 use Rattle.semantics.specs.Ty.{Ty, base, tList, tMap, tNode, tRelationship, tUnion, letter, lineTo, line, namesTo, labelsTo, relTo, nesting, below?, readName, baseIn, bases}
-use Rattle.semantics.proofs.Named.{Name, Names, Maybe, Named}
-use Rattle.semantics.proofs.Regular.{Ascends, AscendingLabels, Regular}
+use Rattle.semantics.specs.Named.{Name, Names, Maybe, Named}
+use Rattle.semantics.specs.Regular.{Ascends, AscendingLabels, Regular}
 use Rattle.ty.specs.Skip.{nextField}
 use Rattle.ty.specs.declared.end.TypeEnd.{TypeEnd}
 use Rattle.ty.specs.declared.end.TypeEnd.the-variants.{End, Bad}

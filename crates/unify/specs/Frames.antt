@@ -12,7 +12,7 @@ use Rattle.semantics.specs.Codes.{comma, listLetter, mapLetter}
 use Rattle.semantics.specs.Bytes.{Bytes}
 use Rattle.semantics.specs.Ty.{Ty, tList, tMap, Fields, ∅ᶠ, field, line, nameTo, fieldsTo, ascending, regular, tooLarge, union?}
 use Rattle.semantics.specs.Unify.{unify}
-use Rattle.semantics.proofs.All.{All}
+use Rattle.semantics.specs.All.{All}
 use Rattle.ty.specs.Parts.{TypeAt}
 use Rattle.ty.specs.Union.{TypesAt}
 use Rattle.unify_run.specs.Run.{Run, done, mismatch, large, verdict, checked, onDone, given, long, attach, keep, closeMap, runMaps, join, runVariants, runMembers, widen}

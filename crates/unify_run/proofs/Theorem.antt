@@ -16,6 +16,7 @@ use Rattle.semantics.proofs.All.{All, empty, also, all-weaken}
 use Rattle.semantics.proofs.Order.{TriTy, lt, eq, gt, triTy, insert-lt, insert-gt, inserts-swap, same-eq, equal-refl}
 use Rattle.semantics.proofs.Regular.{Regular, RegularF, Member}
 use Rattle.unify_run.specs.Run.{Run, done, mismatch, large, verdict, checked, onDone, given, long, kept, add, sizes, nullable, runMaps, runMembers, runPair, runArms, runUnify, run}
+use Rattle.unify_run.specs.Claims.{RunningUnify}
 use Rattle.unify_run.proofs.Size.{bytes, entrySizes, union-bytes, map-bytes, nests, Small, small-sound, small-true, long-large, Put, there, more, insert-put, joined-two, members-inside, element-inside}
 use Rattle.unify_run.proofs.Gather.{inserts-ascending}
 use Rattle.unify_run.proofs.Verdict.{checked-large, checked-small, verdict-gives, verdict-differs, verdict-then, verdict-union}
@@ -246,3 +247,6 @@ run-unify a b p q s t = run-enough (nesting a + nesting b) a b (omega arith) p q
 pub run-arms : (a b : Ty) → Regular a → Regular b → tooLarge a ≡ false → tooLarge b ≡ false → run a b ≡ runArms run a b
 unfolding run
 run-arms a b p q s t = run-unify a b p q s t ∙ sym (arms-run run a b (λ c d l g h u v. run-enough (nesting c + nesting d) c d (omega arith) g h u v) p q (small-sound a s) (small-sound b t))
+
+pub running-unify : RunningUnify
+running-unify = record { answers = run-unify; steps = verdict-arms; recurs = run-arms }

@@ -14,10 +14,7 @@ use Rattle.semantics.proofs.RegularWalk.{RegularRes, step-regular}
 use Rattle.unify_run.proofs.Verdict.{large-append}
 use Rattle.unify_run.proofs.UnionsMeet.{base-small}
 use Rattle.walk_run.proofs.Steps.{first, lineIf, first-append, first-on}
-
--- a regular type, which is not too large if none of the tests is
-abbrev pub FineRes : Res → Type 0
-FineRes r = Regular (r .ty) × (firstLarge (r .tests) ≡ none → tooLarge (r .ty) ≡ false)
+pub use Rattle.walk_run.specs.Claims.{FineRes}
 
 -- ## Tests none of which is too large
 

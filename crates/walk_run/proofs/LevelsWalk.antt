@@ -15,7 +15,7 @@ use Rattle.semantics.specs.Walk.{Res, Env, kindType, varTypeIn, varTypeOf, aNum
 use Rattle.semantics.proofs.Words.{Simple, a-base, a-map, row-simple}
 use Rattle.semantics.proofs.All.{All, empty, also, all-map, all-at, either}
 use Rattle.semantics.proofs.RegularWalk.{AllRegular, walk-regular}
-use Rattle.walk_run.specs.Depth.{levels, greatest, rise, height}
+use Rattle.walk_run.specs.Depth.{levels, greatest, rise, height, Pairs, no-pairs, pairing}
 use Rattle.walk_run.proofs.Levels.{Low, LowF, unite-low, set-low, nesting-levels}
 use Rattle.walk_run.proofs.LevelsUnify.{LowAnswer, unify-low}
 
@@ -182,11 +182,6 @@ pub line-low : (m : ℕ) (env : Env) (h : Head) {es : List (Bytes × Ty)} → Al
 line-low m env h a = type-low m (rule h) (λ k d t e. simple-low (row-simple (h .word) t (d ∙ ap typed e))) env h (roles h) a
 
 -- ## The walk
-
--- two lists of one length, by pairs
-pub data Pairs {A B : Type 0} (R : A → B → Type 0) : List A → List B → Type 0 where
-  no-pairs : Pairs R [] []
-  pairing : {x : A} {y : B} {xs : List A} {ys : List B} → R x y → Pairs R xs ys → Pairs R (x ∷ xs) (y ∷ ys)
 
 pub pairs-take : {A B : Type 0} {R : A → B → Type 0} (n : ℕ) {xs : List A} {ys : List B} → Pairs R xs ys → Pairs R (take n xs) (take n ys)
 pairs-take zero ps = no-pairs

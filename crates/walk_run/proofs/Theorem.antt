@@ -11,7 +11,9 @@ use Rattle.semantics.proofs.Words.{Simple, a-base, a-map, row-simple}
 use Rattle.semantics.proofs.All.{All}
 use Rattle.unify_run.proofs.UnionsMeet.{base-small}
 use Rattle.walk_run.specs.Run.{runStep, judged}
-use Rattle.walk_run.proofs.Fine.{FineRes, step-by}
+use Rattle.walk_run.specs.Claims.{RunningWalk}
+use Rattle.walk_run.proofs.Fine.{FineRes, step-by, walk-fine}
+use Rattle.walk_run.proofs.LevelsWalk.{walk-levels, walk-nesting}
 use Rattle.walk_run.proofs.Quiet.{Said}
 use Rattle.walk_run.proofs.Firsts.{constant-run, variable-run, element-run, slice-run, calling-run, unary-run}
 use Rattle.walk_run.proofs.Pairs.{operator-run, membership-run}
@@ -47,3 +49,6 @@ typing-run comprehension c env n h ps rs a l = comprehension-run env n h ps rs l
 pub step-run : (env : Env) (n : ℕ) (h : Head) (q : Typing) → rule h ≡ Rule.typed q → (rs : List Res) → All FineRes rs → length rs ≡ arity h → judged (step env n h rs) ≡ runStep env n q h (roles h) rs
 unfolding arity
 step-run env n h q e rs a l = ap judged (step-by env n h (Rule.typed q) e rs) ∙ typing-run q (λ t d. simple-tiny (row-simple (h .word) t (e ∙ ap Rule.typed d))) env n h (roles h) rs a (sym l)
+
+pub running-walk : RunningWalk
+running-walk = record { steps = step-run; fine = walk-fine; low = walk-levels; nests = walk-nesting }

@@ -37,3 +37,8 @@ rise (typed t) k = suc k
 unfoldable pub height : List Head → List ℕ
 height [] = []
 height (h ∷ hs) = let ks = height hs in rise (rule h) (greatest (take (arity h) ks)) ∷ drop (arity h) ks
+
+-- two lists of one length, by pairs
+pub data Pairs {A B : Type 0} (R : A → B → Type 0) : List A → List B → Type 0 where
+  no-pairs : Pairs R [] []
+  pairing : {x : A} {y : B} {xs : List A} {ys : List B} → R x y → Pairs R xs ys → Pairs R (x ∷ xs) (y ∷ ys)

@@ -1,9 +1,0 @@
--- Every word, rule, fault, built-in and arm. By computation; assumes nothing.
-use mathlib.Core.Path.{refl}
-use Rattle.semantics.specs.Bytes.{text}
-use Rattle.semantics.proofs.Cases.{Pass, reply, expected}
-use Rattle.cases.specs.WalkCases.{cases}
-
-pub holds : Pass cases
-unfolding reply expected text
-holds = refl

@@ -1,5 +1,0 @@
-pub mod WalkCases
-pub mod LimitCases
-pub mod SizeCases
-pub mod LongCases
-pub mod Held
