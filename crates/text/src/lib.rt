@@ -93,9 +93,34 @@ pub fn copy_in(s: &mut [u8], from: usize, to: usize, len: usize)
     }
 }
 
-// Copies `len` bytes up from `from` to `to`, the last one first.
-pub fn slide_up(s: &mut [u8], from: usize, to: usize, len: usize)
-    requires { ⌜ (from ≤ to) × (to + len ≤ length (now s)) ⌝ }
+// Writes `t` at `at`.
+fn write_at(s: &mut [u8], at: usize, t: &[u8])
+    requires { ⌜ at + length (now t) ≤ length (now s) ⌝ }
+    ensures { λ _. ⌜ now (s .exit) ≡ sets (now (s .entry)) at (now (t .entry)) ⌝ }
+{
+    let mut i = 0;
+    while i < t.len() {
+        s[at + i] = t[i];
+        i += 1;
+    }
+}
+
+// Bytes that a move can keep aside: from there and back they are copied many at once.
+const ASIDE: usize = 1024;
+
+// `slide_up` of so few bytes that they can be kept aside.
+fn slide_aside(s: &mut [u8], from: usize, to: usize, len: usize)
+    requires { ⌜ (from + len ≤ length (now s)) × (to + len ≤ length (now s)) × (len ≤ 1024) ⌝ }
+    ensures { λ _. ⌜ now (s .exit) ≡ sets (now (s .entry)) to (slice from (from + len) (now (s .entry))) ⌝ }
+{
+    let mut kept = [0u8; ASIDE];
+    write_at(&mut kept, 0, &s[from..from + len]);
+    write_at(s, to, &kept[..len]);
+}
+
+// `slide_up` of any number of bytes, the last one first.
+fn slide_bytes(s: &mut [u8], from: usize, to: usize, len: usize)
+    requires { ⌜ (to + len ≤ length (now s)) × (from ≤ to) ⌝ }
     ensures { λ _. ⌜ now (s .exit) ≡ sets (now (s .entry)) to (slice from (from + len) (now (s .entry))) ⌝ }
 {
     let mut i = len;
@@ -105,14 +130,49 @@ pub fn slide_up(s: &mut [u8], from: usize, to: usize, len: usize)
     }
 }
 
-// Exchanges [a..m) and [m..e).
-pub fn rotate(s: &mut [u8], a: usize, m: usize, e: usize)
+// Copies `len` bytes up from `from` to `to`.
+pub fn slide_up(s: &mut [u8], from: usize, to: usize, len: usize)
+    requires { ⌜ (from ≤ to) × (to + len ≤ length (now s)) ⌝ }
+    ensures { λ _. ⌜ now (s .exit) ≡ sets (now (s .entry)) to (slice from (from + len) (now (s .entry))) ⌝ }
+{
+    if len <= ASIDE {
+        slide_aside(s, from, to, len);
+    } else {
+        slide_bytes(s, from, to, len);
+    }
+}
+
+// `rotate` with a first part of so few bytes that they can be kept aside.
+fn rotate_aside(s: &mut [u8], a: usize, m: usize, e: usize)
+    requires { ⌜ (a ≤ m) × (m ≤ e) × (e ≤ length (now s)) × (m ≤ a + 1024) ⌝ }
+    ensures { λ _. ⌜ now (s .exit) ≡ rotated a m e (now (s .entry)) ⌝ }
+{
+    let mut kept = [0u8; ASIDE];
+    write_at(&mut kept, 0, &s[a..m]);
+    copy_in(s, m, a, e - m);
+    write_at(s, a + (e - m), &kept[..m - a]);
+}
+
+// `rotate` by turning each part, and then both.
+fn rotate_turning(s: &mut [u8], a: usize, m: usize, e: usize)
     requires { ⌜ (a ≤ m) × (m ≤ e) × (e ≤ length (now s)) ⌝ }
     ensures { λ _. ⌜ now (s .exit) ≡ rotated a m e (now (s .entry)) ⌝ }
 {
     bytes::reverse(s, a, m);
     bytes::reverse(s, m, e);
     bytes::reverse(s, a, e);
+}
+
+// Exchanges [a..m) and [m..e).
+pub fn rotate(s: &mut [u8], a: usize, m: usize, e: usize)
+    requires { ⌜ (a ≤ m) × (m ≤ e) × (e ≤ length (now s)) ⌝ }
+    ensures { λ _. ⌜ now (s .exit) ≡ rotated a m e (now (s .entry)) ⌝ }
+{
+    if m - a <= ASIDE {
+        rotate_aside(s, a, m, e);
+    } else {
+        rotate_turning(s, a, m, e);
+    }
 }
 
 // Writes `b` at `fill` if that is inside `out`, and counts it either way.

@@ -25,7 +25,12 @@ use Rattle.ty.specs.Entry.{MapFront, Goes, Fronted, insertedAt, replaced
 use Rattle.ty.specs.declared.Grown.{Grown}
 use Rattle.ty.specs.declared.Grown.the-variants.{Len, TooLarge}
 use Rattle.ty.specs.declared.map.Spot.the-variants.{New, Old}
-use Rattle.ty.proofs.Lines.{line-to, name-to}
+use Rattle.bytes.specs.Bytes.{indexOf}
+use Rattle.text.proofs.Words.{ends}
+use Rattle.ty.specs.Keys.{NameBelow}
+use Rattle.ty.specs.Skip.{nextField}
+use Rattle.ty.proofs.Lines.{line-to, name-to, nesting-line, nesting-pos}
+use Rattle.ty.proofs.Skips.{type-room}
 use Rattle.ty.proofs.NameLaws.{name-append, name-long, name-drop, name-ends, name-part, lex-hex}
 use Rattle.ty.proofs.MergeLaws.{drop-part}
 
@@ -335,6 +340,9 @@ at-last s x len fs n q front k h = at-end fs n q len (map-long s x len fs n fron
 pub look : (s x : Bytes) (len : ℕ) (fs : Fields) (n : Bytes) (q : ℕ) → MapFront s len x fs n → Looking fs n q → q < len - 2 → Met fs n q
 look s x len fs n q front k h = met fs n q k (omega (arith, h, map-long s x len fs n front))
 
+pub q-in : (s x : Bytes) (len : ℕ) (fs : Fields) (n : Bytes) (q : ℕ) → MapFront s len x fs n → q < len - 2 → q ≤ length s
+q-in s x len fs n q front h = let i = front .at .inside in omega arith
+
 -- the entry that is met, in the text
 module _ (s x : Bytes) (len : ℕ) (fs : Fields) (n : Bytes) (q : ℕ) (front : MapFront s len x fs n) (k : Met fs n q) where
   met-drop : drop q s ≡ entryTo (k .name) (k .ty) ++ (fieldsTo (k .rest) [] ++ drop len s)
@@ -472,3 +480,53 @@ module _ (s x : Bytes) (len : ℕ) (fs : Fields) (n : Bytes) (q : ℕ) (front : 
             )
             go (lt w) z = absurd (let b : _≡_ {A = ℕ} 0 1 = cc (lex-lt w) in omega arith)
             go (eq w) z = absurd (let b : _≡_ {A = ℕ} 0 1 = cc (ap (λ (m : Bytes). lex m n) w, lex-eq n) in omega arith)
+
+-- the same for a value that was found behind the name's comma
+module _ (s x : Bytes) (len : ℕ) (fs : Fields) (n : Bytes) (q : ℕ) (front : MapFront s len x fs n) (k : Met fs n q) (low : q ≤ length s) where
+  comma : ℕ
+  comma = q + indexOf 44 (drop q s)
+
+  comma-ends : Ends 44 s q comma
+  unfolding comma
+  comma-ends = ends 44 s q comma low refl
+
+  pub comma-known : q + indexOf 44 (drop q s) < length s
+  unfolding comma
+  comma-known = omega (arith, type-room s (comma + 1) (met-from s x len fs n q front k comma comma-ends))
+
+  module _ (v : ℕ) (is : v ≡ nextField s q) where
+    pub value-from : TypeFrom s v
+    unfolding comma
+    value-from = rw is (met-from s x len fs n q front k comma comma-ends)
+
+    module _ (e : ℕ) (ends-at : EndsAt s v e) where
+      behind : EndsAt s (comma + 1) e
+      unfolding comma
+      behind = rw is at ends-at
+
+      pub value-past : (q < e) × (e + 2 ≤ len)
+      value-past = met-past s x len fs n q front k comma comma-ends e behind
+
+      pub value-room : q + 4 ≤ length s
+      value-room =
+          let f = front .at .inside in
+          omega (arith, value-past .1, met-end s x len fs n q front k comma comma-ends e behind, entry-long (k .name) (k .ty), nesting-line (k .ty), nesting-pos (k .ty))
+
+      pub value-below : NameBelow s q x → Looking fs n e
+      value-below b = goes-on s x len fs n q front k comma comma-ends e behind Before (sym (b (comma - q))) refl
+
+      module _ (c : ℕ) (found : Ends 44 s q c) (o : Order) (compared : orderOf o ≡ lex (take (c - q) (drop q s)) x) where
+        same-place : v ≡ c + 1
+        same-place = is ∙ ap (λ (i : ℕ). i + 1) (sym (found .place))
+
+        found-at : EndsAt s (c + 1) e
+        found-at = rw same-place at ends-at
+
+        pub value-on : o ≡ Before → Looking fs n e
+        value-on = goes-on s x len fs n q front k c found e found-at o compared
+
+        pub value-old : o ≡ Same → Goes (line (tMap fs)) fs n (Old v e)
+        value-old t = rw same-place (goes-old s x len fs n q front k c found e found-at o compared t)
+
+        pub value-new : o ≡ More → Goes (line (tMap fs)) fs n (New q)
+        value-new = goes-new s x len fs n q front k c found e found-at o compared

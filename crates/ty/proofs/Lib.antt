@@ -1,5 +1,6 @@
 pub mod EntryLaws
 pub mod Fields
+pub mod Heads
 pub mod Inner
 pub mod KindLaws
 pub mod LabelLaws

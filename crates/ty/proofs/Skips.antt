@@ -8,7 +8,8 @@ use native.Mathlib.Omega.{arith}
 use lib.Dec.{eqb, ltb}
 use lib.ListN.{length, drop, getD, length-drop, length-append}
 use lib.Seq.{drop-drop, getD-drop}
-use borrow.Author.Tests.{eqb-true, eqb-false}
+use borrow.Author.Tests.{eqb-true, eqb-false, ltb-true, ltb-false}
+use Rattle.text.proofs.Words.{index-mark, index-first}
 use Rattle.bytes.specs.Bytes.{indexOf}
 use Rattle.semantics.specs.Bytes.{Bytes, hex}
 use Rattle.semantics.specs.Ty.{nameTo, relTo, Ty, lineTo, line}
@@ -17,6 +18,28 @@ use Rattle.ty.specs.Parts.{TypeFrom, EndsAt}
 use Rattle.ty.specs.Skip.{openedBy, goesOn, nextField, Skip, done, word, rel, SkipAt, Stepped}
 use Rattle.ty.proofs.Lines.{length-to, nesting-line, nesting-pos, name-to, comma-at, hex-bytes, line-skip}
 use Rattle.ty.proofs.Places.{past, byte-past, byte-at, room, room-past}
+
+-- on the way to the comma of the field at q
+module _ (s : Bytes) (q i : ℕ) (h : q + indexOf 44 (drop q s) < length s) (a : q ≤ i) (b : i ≤ q + indexOf 44 (drop q s)) where
+  pub comma-on : (getD s i 0 ≡ 44 → ⊥) → i < q + indexOf 44 (drop q s)
+  comma-on n = go (ltb i (q + indexOf 44 (drop q s))) refl
+    where
+      go : (t : Bool) → ltb i (q + indexOf 44 (drop q s)) ≡ t → i < q + indexOf 44 (drop q s)
+      go true e = ltb-true i (q + indexOf 44 (drop q s)) e
+      go false e =
+          let k = ltb-false i (q + indexOf 44 (drop q s)) e in
+          let z : i ≡ q + indexOf 44 (drop q s) = omega arith in
+          absurd (n (ap (λ (j : ℕ). getD s j 0) z ∙ sym (getD-drop q s (indexOf 44 (drop q s)) 0) ∙ index-mark 44 (drop q s) (omega (arith, length-drop q s))))
+
+  pub comma-here : getD s i 0 ≡ 44 → i ≡ q + indexOf 44 (drop q s)
+  comma-here n = go (ltb i (q + indexOf 44 (drop q s))) refl
+    where
+      go : (t : Bool) → ltb i (q + indexOf 44 (drop q s)) ≡ t → i ≡ q + indexOf 44 (drop q s)
+      go true e =
+          let k = ltb-true i (q + indexOf 44 (drop q s)) e in
+          let z : q + (i - q) ≡ i = omega arith in
+          absurd (index-first 44 (drop q s) (i - q) (omega arith) (getD-drop q s (i - q) 0 ∙ ap (λ (j : ℕ). getD s j 0) z ∙ n))
+      go false e = let k = ltb-false i (q + indexOf 44 (drop q s)) e in omega arith
 
 -- behind a name
 pub name-past : (s : Bytes) (p : ℕ) (n x : Bytes) → drop p s ≡ nameTo n x → (p + indexOf 44 (drop p s) < length s) × (drop (nextField s p) s ≡ x)
@@ -193,3 +216,17 @@ skipped s at q depth more i m t rest e =
     let j = line-inj t (i .ty) rest (i .rest) (sym e ∙ i .is) in
     let n = ap length (done-is (rw m at (i .skip))) in
     rw (j .0) (omega (arith, length-drop q s, type-inside s at (i .ty) (i .rest) (i .is), i .inside))
+
+-- ## A type told by its letter
+
+module _ (s : Bytes) (at : ℕ) (w : TypeFrom s at) where
+  pub type-room : at + 2 ≤ length s
+  type-room = omega (arith, type-inside s at (w .ty) (w .rest) (w .is), nesting-line (w .ty), nesting-pos (w .ty))
+
+  -- a relationship type ends behind its one step
+  pub rel-at : getD s at 0 ≡ 77 → SkipAt s at
+  rel-at h = skip-at s at at 0 true (skipping s at w) refl
+
+  pub rel-ends : getD s at 0 ≡ 77 → (r : ℕ) → Stepped s at r → EndsAt s at r
+  unfolding openedBy goesOn
+  rel-ends h r st = skipped s at r 0 false (skip-on s at at 0 true (skipping s at w) refl r 0 false st (rw h refl) (rw h refl)) refl

@@ -14,6 +14,7 @@ use Rattle.text.proofs.Laws.{sets-parts, drop-above}
 use Rattle.semantics.specs.Limits.{typeLimit}
 use Rattle.ty.specs.Parts.{linesOf, TypeAt, TypeFrom, EndsAt}
 use Rattle.ty.specs.Union.{TypesAt, Placing, Placed, Between, Goes, Pending, Inserted, InsertedAny, overlong, grown, SomeMembers, Sized, Adding, Grew}
+use Rattle.ty.specs.Keys.{Below}
 use Rattle.ty.specs.declared.union.Slot.{Slot}
 use Rattle.ty.specs.declared.union.Slot.the-variants.{At, There}
 use Rattle.ty.specs.declared.union.Rest.{Rest}
@@ -88,6 +89,9 @@ module _ {s : Bytes} {n m : ℕ} {ms : List Ty} {x : Ty} {q e : ℕ} (w : More s
             ∙ ap (λ (l : List Ty). w .before ++ l) (insert-past x (w .this) (w .after) (sym more-order ∙ o))
             ∙ sym (append-assoc (w .before) (w .this ∷ []) (insert x (w .after)));
       }
+
+  pub more-below : Below s q n m → Reached ms x e
+  more-below b = more-on (more-order ∙ b (w .this) (linesOf (w .after) ++ drop n s) x (w .from) new)
 
   pub more-there : lex (slice q e s) (slice n m s) ≡ Ordering·eq → insert x ms ≡ ms
   more-there o = w .inserted ∙ ap (λ (l : List Ty). w .before ++ l) (insert-there x (w .this) (w .after) (sym more-order ∙ o)) ∙ sym (w .members)

@@ -38,7 +38,11 @@ pub fn next_field(s: &[u8], q: usize) -> usize
     requires { ⌜ q + indexOf 44 (drop q (now s)) < length (now s) ⌝ }
     ensures { λ r. ⌜ r ≡ nextField (now (s .entry)) q ⌝ }
 {
-    text::field_end(s, q) + 1
+    let mut i = q;
+    while s[i] != COMMA {
+        i += 1;
+    }
+    i + 1
 }
 
 // Brackets open behind a field that begins with c: K, L and O open one, `!` closes one.
@@ -87,8 +91,8 @@ fn skip_field(s: &[u8], q: usize) -> usize
     next_field(s, q)
 }
 
-// Where the type at `at` ends.
-pub fn type_end(s: &[u8], at: usize) -> usize
+// Where the type at `at` ends, field by field.
+fn nested_end(s: &[u8], at: usize) -> usize
     requires { ⌜ TypeFrom (now s) at ⌝ }
     ensures { λ r. ⌜ EndsAt (now (s .entry)) at r ⌝ }
 {
@@ -102,6 +106,21 @@ pub fn type_end(s: &[u8], at: usize) -> usize
         more = goes_on(c, depth);
     }
     q
+}
+
+// Where the type at `at` ends. A letter below that of lists is a whole type.
+pub fn type_end(s: &[u8], at: usize) -> usize
+    requires { ⌜ TypeFrom (now s) at ⌝ }
+    ensures { λ r. ⌜ EndsAt (now (s .entry)) at r ⌝ }
+{
+    let k = s[at];
+    if k < LIST {
+        return at + 2;
+    }
+    if k == RELATIONSHIP {
+        return relationship_end(s, at);
+    }
+    nested_end(s, at)
 }
 
 // Whether the field at q is the one byte b.

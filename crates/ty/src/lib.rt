@@ -1,5 +1,6 @@
 // Type lines (ty.rs): where a type ends, its size, the strict reader, the running union, map entries, label sets, type names.
 mod end;
+mod keys;
 mod label_sets;
 mod letters;
 mod map;

@@ -5,7 +5,10 @@ ghost use lib.ListN.{length};
 ghost use Rattle.ty.specs.Entry.{SomeMap, Spotted, Fronted, insertedAt, replacedAt, FrontOf, TestedAs, Entering, Entered};
 use crate::Grown;
 use crate::end::fits;
+use crate::end::next_field;
 use crate::end::type_end;
+use crate::keys::is_name_below;
+use crate::keys::name_key;
 use text::COMMA;
 use text::Order;
 
@@ -21,22 +24,25 @@ pub fn entry_spot(part: &[u8], len: usize, name: &[u8]) -> Spot
     ensures { λ r. ⌜ Spotted (now (part .entry)) len (now (name .entry)) r ⌝ }
 {
     let last = len - 2;
+    let low = name_key(name);
     let mut q = 2;
     while q < last {
-        let c = text::field_end(part, q);
-        let e = type_end(part, c + 1);
-        match text::compare(&part[q..c], name) {
-            Order::Less => {
-                q = e;
-            }
-            Order::Same => {
-                return Spot::Old {
-                    value: c + 1,
-                    end: e,
-                };
-            }
-            Order::More => {
-                return Spot::New(q);
+        let v = next_field(part, q);
+        let e = type_end(part, v);
+        if is_name_below(part, q, name, low) {
+            q = e;
+        } else {
+            let c = text::field_end(part, q);
+            match text::compare(&part[q..c], name) {
+                Order::Less => {
+                    q = e;
+                }
+                Order::Same => {
+                    return Spot::Old { value: v, end: e };
+                }
+                Order::More => {
+                    return Spot::New(q);
+                }
             }
         }
     }

@@ -6,6 +6,8 @@ ghost use Rattle.ty.specs.Union.{Placing, Placed, Pending, InsertedAny, 
 use crate::Grown;
 use crate::end::fits;
 use crate::end::type_end;
+use crate::keys::head_of;
+use crate::keys::is_below;
 use crate::letters::CLOSE;
 use crate::letters::UNION;
 use text::COMMA;
@@ -28,18 +30,23 @@ pub fn place(part: &[u8], n: usize, m: usize) -> Slot
     requires { ⌜ Placing (now part) n m ⌝ }
     ensures { λ r. ⌜ Placed (now (part .entry)) n m r ⌝ }
 {
+    let x = head_of(part, n, m);
     let mut q = 0;
     while q < n {
         let e = type_end(part, q);
-        match text::compare_in(part, q, e, n, m) {
-            Order::Less => {
-                q = e;
-            }
-            Order::Same => {
-                return Slot::There;
-            }
-            Order::More => {
-                return Slot::At(q);
+        if is_below(part, q, n, x) {
+            q = e;
+        } else {
+            match text::compare_in(part, q, e, n, m) {
+                Order::Less => {
+                    q = e;
+                }
+                Order::Same => {
+                    return Slot::There;
+                }
+                Order::More => {
+                    return Slot::At(q);
+                }
             }
         }
     }

@@ -1,53 +1,43 @@
--- The skip comes to the end of the type. Assumes nothing.
-use borrow.Author.Needs.{needs}
-use Prim.Native.Nat.{_-_}
+-- By its letter, or else field by field. Assumes nothing.
 use native.Mathlib.Omega.{arith}
-use lib.ListN.{length}
-use Rattle.ty.proofs.Skips.{Skipping, skipping, skip-at, skip-depth, skip-on, skipped}
+use Rattle.ty.proofs.Skips.{type-room, rel-at, rel-ends}
+use Rattle.ty.proofs.Heads.{flat-ends}
 use Rattle.ty.proofs.end.type_end.Statement.{statement}
 use Rattle.ty.proofs.end.type_end.Tie as tie
+use Rattle.ty.proofs.end.type_end.Reads as reads
+use Rattle.ty.proofs.end.type_end.Lts as lts
+use Rattle.ty.proofs.end.nested_end.Reads as nested-end-reads
+use Rattle.ty.proofs.end.relationship_end.Reads as relationship-end-reads
 
-abbrev Inv-loop : tie.InvT-loop
-Inv-loop s at q₀ depth₀ more₀ q depth more = Skipping s at q depth more
+shared-slice-read-k : tie.Need-shared-slice-read-k
+shared-slice-read-k c = omega (arith, type-room _ _ (c .before .before .pre))
 
-abbrev μ-loop : tie.MeasureT-loop
-μ-loop s at q₀ depth₀ more₀ q depth more = length s - q
+add-result : tie.Need-add-result
+add-result c = omega (arith, type-room _ _ (c .before .before .before .pre), c .before .before .before .fits .at)
 
-loop-holds : tie.Need-loop-holds Inv-loop μ-loop
-loop-holds c = skipping _ _ (c .before .pre)
+returns : tie.Need-returns
+returns c = flat-ends _ _ (c .if1 .taken)
 
-shared-slice-read-c : tie.Need-shared-slice-read-c Inv-loop μ-loop
-shared-slice-read-c c = let l = c .before .before in let i = l .loop .inv in let m = c .before .loop-test .taken in skip-depth _ _ _ _ _ i m .2
+relationship-end-requires : tie.Need-relationship-end-requires
+relationship-end-requires c κs = (rel-at _ _ (c .before .before .before .before .pre) (c .if2 .taken), c .if2 .taken)
 
-skip-field-requires : tie.Need-skip-field-requires Inv-loop μ-loop
-skip-field-requires c κs = let l = c .before .before in let i = l .loop .inv in let m = c .before .loop-test .taken in skip-at _ _ _ _ _ i m
+returns-2 : tie.Need-returns-2
+returns-2 c = rel-ends _ _ (c .before .before .before .before .before .pre) (c .before .if2 .taken) _ (c .relationship-end .ensures)
 
-opened-requires : tie.Need-opened-requires Inv-loop μ-loop
-opened-requires c κs = let l = c .before .before .before in let i = l .loop .inv in let m = c .before .before .loop-test .taken in (skip-depth _ _ _ _ _ i m .0, omega (arith, skip-depth _ _ _ _ _ i m .1, skip-depth _ _ _ _ _ i m .2))
+nested-end-requires : tie.Need-nested-end-requires
+nested-end-requires c κs = c .before .before .before .before .pre
 
-goes-on-requires : tie.Need-goes-on-requires Inv-loop μ-loop
-goes-on-requires c κs = search needs
-
-loop-less : tie.Need-loop-less Inv-loop μ-loop
-loop-less c = let l = c .before .before .before .before .before in let i = l .loop .inv in let m = c .before .before .before .before .loop-test .taken in omega (arith, c .before .before .skip-field .ensures .onward, c .before .before .skip-field .ensures .inside)
-
-loop-again : tie.Need-loop-again Inv-loop μ-loop
-loop-again c = let l = c .before .before .before .before .before in let i = l .loop .inv in let m = c .before .before .before .before .loop-test .taken in skip-on _ _ _ _ _ i m _ _ _ (c .before .before .skip-field .ensures) (c .before .opened .ensures) (c .goes-on .ensures)
-
-returns : tie.Need-returns Inv-loop μ-loop
-returns c = skipped _ _ _ _ _ (c .before .loop .inv) (c .loop-test .left)
+returns-3 : tie.Need-returns-3
+returns-3 c = c .nested-end .ensures
 
 pub type-end-spec : {M : Type 1} → statement M
 type-end-spec =
     tie.close
     (tie.spec
-    Inv-loop
-    μ-loop
-    loop-holds
-    shared-slice-read-c
-    skip-field-requires
-    opened-requires
-    goes-on-requires
-    loop-less
-    loop-again
-    returns)
+    shared-slice-read-k
+    add-result
+    returns
+    relationship-end-requires
+    returns-2
+    nested-end-requires
+    returns-3)
