@@ -190,16 +190,16 @@ def main():
     put("line/src/places.rt", ("by tools/line_table.py.\n", END, "".join(f"pub const {name}: usize = {n};\n\n" for name, n in snake).rstrip("\n") + "\n"))
     exported = [("places", name) for name, _ in snake] + [("word_numbers", w) for w in WORDS]
     put("line/src/lib.rt", ("by tools/line_table.py.\n", END, "".join(f"pub use {module}::{name};\n" for module, name in sorted(exported))))
-    put("infer/src/rule.rt", ("    match word {\n", "        _ => SILENT", named((f"line::{w}", RULE_NAMES[ROWS[w]["rule"]]) for w in WORDS[span[0] - 1:span[-1]])))
-    put("infer/src/step.rt", ("fn letter_of(word: usize) -> u8\n    ensures { λ r. ⌜ LetterBy word r ⌝ }\n{\n    match word {\n", "        _ => ty::UNKNOWN", named((f"line::{w}", f"ty::{LETTER_NAMES[ROWS[w]['letter'] - 65]}") for w in WORDS[span[0] - 1:span[-1]])))
-    put("infer/proofs/RoleLaws.antt", ("typedFrom = ", "\n", str(span[0])), ("typedMany = ", "\n", str(len(span))))
-    proof("infer.rule.rule_of", "an arm's number is the rule of its word; behind the arms no word has one.",
-          "use mathlib.Core.Path.{refl}\nuse Rattle.semantics.specs.Sheet.{row}\nuse Rattle.line.specs.Rows.{numbered}\nuse Rattle.infer.specs.Steps.{typingNo, ruleNo}\n"
-          "use Rattle.infer.proofs.RoleLaws.{rules, arm-rule, rest-rule}\n", "rules numbered row ruleNo typingNo",
+    put("exprs/src/rule.rt", ("    match word {\n", "        _ => SILENT", named((f"line::{w}", RULE_NAMES[ROWS[w]["rule"]]) for w in WORDS[span[0] - 1:span[-1]])))
+    put("exprs/src/leaf.rt", ("fn letter_of(word: usize) -> u8\n    ensures { λ r. ⌜ LetterBy word r ⌝ }\n{\n    match word {\n", "        _ => ty::UNKNOWN", named((f"line::{w}", f"ty::{LETTER_NAMES[ROWS[w]['letter'] - 65]}") for w in WORDS[span[0] - 1:span[-1]])))
+    put("exprs/proofs/RoleLaws.antt", ("typedFrom = ", "\n", str(span[0])), ("typedMany = ", "\n", str(len(span))))
+    proof("exprs.rule.rule_of", "an arm's number is the rule of its word; behind the arms no word has one.",
+          "use mathlib.Core.Path.{refl}\nuse Rattle.semantics.specs.Sheet.{row}\nuse Rattle.line.specs.Rows.{numbered}\nuse Rattle.exprs.specs.Rules.{typingNo, ruleNo}\n"
+          "use Rattle.exprs.proofs.RoleLaws.{rules, arm-rule, rest-rule}\n", "rules numbered row ruleNo typingNo",
           "λ c v e. arm-rule _ _ _ refl (c .match .keys{}) v e", len(span), "(λ c v e. rest-rule v (rw e at (c .match .rest)))")
-    proof("infer.step.letter_of", "an arm's letter is that of its word's constant; behind the arms there is none.",
+    proof("exprs.leaf.letter_of", "an arm's letter is that of its word's constant; behind the arms there is none.",
           "use mathlib.Core.Path.{refl}\nuse Rattle.semantics.specs.Ty.{letter, line, lineTo, fieldsTo}\nuse Rattle.semantics.specs.Sheet.{row}\nuse Rattle.line.specs.Rows.{numbered}\n"
-          "use Rattle.infer.proofs.EndLaws.{letters, constantLine, arm-letter, rest-letter}\n", "letters constantLine numbered row line lineTo fieldsTo letter",
+          "use Rattle.exprs.proofs.LeafLaws.{letters, constantLine, arm-letter, rest-letter}\n", "letters constantLine numbered row line lineTo fieldsTo letter",
           "λ c. arm-letter _ _ _ refl (c .match .keys{})", len(span), "(λ c. rest-letter 80 _ (c .match .rest))")
     for name in changed:
         print("differs" if CHECK else "written", name)

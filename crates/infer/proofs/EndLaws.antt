@@ -2,25 +2,25 @@
 use mathlib.Core.Path.{_≡_, refl, sym, _∙_, ap, subst}
 use mathlib.Core.List.{List, [], _∷_, map}
 use mathlib.Core.Option.{Option, none, some}
-use mathlib.Core.Bool.{Bool, true, false, cond, _&&_}
-use borrow.Author.Tests.{eq-eqb, ne-eqb}
+use mathlib.Core.Bool.{Bool, true, false, _&&_}
+use borrow.Author.Tests.{eq-eqb}
 use Prim.Native.Nat.{ℕ, suc, zero, _≤_, _<_}
 use native.Mathlib.Omega.{arith}
 use lib.Dec.{eqb, leb}
-use lib.ListN.{length, getD, take, drop, length-take}
+use lib.ListN.{length, take, drop, length-take}
 use lib.Seq.{slice, slice-empty}
 use Rattle.semantics.specs.Bytes.{Bytes, hex, unhex, split, decimal}
 use Rattle.semantics.specs.Limits.{variableLimit}
-use Rattle.semantics.specs.Ty.{tAny, Ty, base, tList, tMap, Fields, ∅ᶠ, letter, line, lineTo, fieldsTo}
+use Rattle.semantics.specs.Ty.{tAny, Ty, base, tList, tMap, Fields, ∅ᶠ, line}
 use Rattle.semantics.specs.Builtins.{lookup, elementOf, listOr}
-use Rattle.semantics.specs.Sheet.{Word, VAR, MPR, Head, variable, num, variableOf, Typing, constant, varType, element, slice as slicing, listing, mapping, calling, operator, unary, casing, membership, comprehension, Rule, silent, entering, typed, row, rule, wrong, variableV, into, within, value, Read, bad, ok, fill, bare, wordIn, words}
+use Rattle.semantics.specs.Sheet.{Word, VAR, Head, variable, num, variableOf, Typing, constant, varType, element, slice as slicing, listing, mapping, calling, operator, unary, casing, membership, comprehension, typed, row, rule, wrong, variableV, into, within, value, Read, bad, ok, fill, bare, wordIn, words}
 use Rattle.semantics.specs.Walk.{Env, kindType, varTypeOf, op, unaryType, unaryFaults, callType, callFaults}
 use Rattle.semantics.proofs.Named.{Maybe, Digits}
 use Rattle.semantics.proofs.Reader.{unhex-sound}
 use Rattle.text.specs.Text.{digitOf}
 use Rattle.text.proofs.Words.{values-unhex}
-use Rattle.semantics.proofs.Words.{every, every-where}
-use Rattle.line.specs.Rows.{wordNo, numbered}
+use Rattle.semantics.proofs.Words.{every-where}
+use Rattle.line.specs.Rows.{wordNo}
 use Rattle.line.specs.Line.{Plain, unknown, known, wordSays, piecesSay, lineSays}
 use Rattle.line.specs.declared.line.Head.{Head as Seen}
 use Rattle.hir.specs.Lines.{LineAt}
@@ -31,15 +31,15 @@ use Rattle.builtins.specs.Rows.{Returned}
 use Rattle.report.specs.declared.Tally.{Tally}
 use Rattle.report.proofs.ReportLaws.{adds-none}
 use Rattle.walk_run.specs.Run.{Kept, empty, over, kept, both, items, last, entries, arms, Told, told, firstOf, secondOf, argsOf, endOp, endIn, endList, endMap, endCase, endLast, end}
-use Rattle.kept.specs.State.{textOf, place, ArmForm}
-use Rattle.kept.specs.declared.St.{St}
-use Rattle.finish.specs.End.{Puts, Ends, Countable, KeptAt, TwoAt, SomeTwo, SomeOne, argKept, SomeArg, SomeItems, SomeArms, SomeLast}
-use Rattle.finish.specs.declared.Ended.{Ended}
-use Rattle.finish.specs.declared.Ended.the-variants.{Typed}
-use Rattle.finish.proofs.Fronts.{put-type}
-use Rattle.infer.specs.Steps.{typingNo, ruleNo, AtMostOne, One, Two, Items, LastOne, Entries, EnvAs, EndAt, SomeEnd, EndedBy, SpeltAs, LetterBy, ConstantBy, SomeQuiet, QuietBy}
+use Rattle.exprs.specs.State.{textOf, place, ArmForm}
+use Rattle.exprs.specs.declared.state.St.{St}
+use Rattle.exprs.specs.End.{Ends, Countable, KeptAt, TwoAt, SomeTwo, SomeOne, argKept, SomeArg, SomeItems, SomeArms, SomeLast}
+use Rattle.exprs.specs.declared.state.Ended.{Ended}
+use Rattle.exprs.specs.declared.state.Ended.the-variants.{Typed}
+use Rattle.exprs.specs.Rules.{typingNo, ruleNo, ConstantBy}
+use Rattle.infer.specs.Steps.{AtMostOne, One, Two, Items, LastOne, Entries, EnvAs, EndAt, SomeEnd, EndedBy, SpeltAs, SomeQuiet, QuietBy}
 use Rattle.infer.specs.declared.step.Env.{Env as Binds}
-use Rattle.infer.proofs.RoleLaws.{inOrder, typedFrom, typedMany, word-is, Missed, missed-out, rest-rule}
+use Rattle.exprs.proofs.RoleLaws.{Missed, missed-out}
 use Rattle.infer.proofs.StepLaws.{typingOf, typing-at}
 
 -- ## Names
@@ -58,56 +58,7 @@ spelt-end {name} {stop} h =
 pub name-spelt : (s n : Bytes) → unhex s ≡ some n → s ≡ map hex n
 name-spelt s n e = sym (subst (Maybe (λ (m : Bytes). (map hex m ≡ s) × Digits m)) e (unhex-sound s) .0)
 
--- ## Constants
-
-unfoldable pub constantLine : Rule → Bytes
-constantLine silent = 80 ∷ 44 ∷ []
-constantLine entering = 80 ∷ 44 ∷ []
-constantLine (typed (constant t)) = line t
-constantLine (typed varType) = 80 ∷ 44 ∷ []
-constantLine (typed element) = 80 ∷ 44 ∷ []
-constantLine (typed slicing) = 80 ∷ 44 ∷ []
-constantLine (typed listing) = 80 ∷ 44 ∷ []
-constantLine (typed mapping) = 80 ∷ 44 ∷ []
-constantLine (typed calling) = 80 ∷ 44 ∷ []
-constantLine (typed operator) = 80 ∷ 44 ∷ []
-constantLine (typed unary) = 80 ∷ 44 ∷ []
-constantLine (typed casing) = 80 ∷ 44 ∷ []
-constantLine (typed membership) = 80 ∷ 44 ∷ []
-constantLine (typed comprehension) = 80 ∷ 44 ∷ []
-
--- the letter of each word's constant
-unfoldable pub letters : List ℕ
-letters = 80 ∷ map (λ (v : Word). getD (constantLine (row v .rule)) 0 80) numbered
-
-line-row : (v : Word) → (wordNo v ≡ 51 → ⊥) → getD letters (wordNo v) 80 ∷ 44 ∷ [] ≡ constantLine (row v .rule)
-unfolding letters constantLine wordNo numbered row line lineTo fieldsTo letter
-line-row v n =
-    rw (ne-eqb (wordNo v) 51 n) at (every (λ (v : Word). cond (eqb (wordNo v) 51) [] (getD letters (wordNo v) 80 ∷ 44 ∷ [])) (λ (v : Word). cond (eqb (wordNo v) 51) [] (constantLine (row v .rule))) refl v)
-
-map-row : (v : Word) → v ≡ MPR → 75 ∷ 44 ∷ 33 ∷ 44 ∷ [] ≡ constantLine (row v .rule)
-unfolding constantLine row line lineTo fieldsTo
-map-row v e = rw e
-
-pub arm-letter : (k n w : ℕ) → getD letters k 80 ≡ n → w ≡ k → LetterBy w n
-unfolding constantLine
-arm-letter k n w t o v u e r m =
-    ap (λ (i : ℕ). i ∷ 44 ∷ []) (sym t ∙ ap (λ (i : ℕ). getD letters i 80) (sym o ∙ e)) ∙ (line-row v (λ z. m (e ∙ z)) ∙ ap constantLine r)
-
-pub rest-letter : (n w : ℕ) → Missed typedFrom typedMany w → LetterBy w n
-unfolding ruleNo typingNo
-rest-letter n w p v t e r m =
-    let z = rest-rule v (rw e at p) in
-    let y : ruleNo (row v .rule) ≡ 0 = ap ruleNo r in
-    absurd (omega arith)
-
-module _ {s s′ : Bytes} {r : ℕ} (w : ℕ) (h : 1024 ≤ length s) where
-  pub constant-map : w ≡ 51 → Puts (75 ∷ 44 ∷ 33 ∷ 44 ∷ []) s s′ r → ConstantBy w s s′ r
-  unfolding constantLine inOrder numbered
-  constant-map o p v t e x = put-type t (map-row v (word-is v 51 (sym e ∙ o)) ∙ ap constantLine x) (omega arith) p
-
-  pub constant-letter : {n : ℕ} → LetterBy w n → (w ≡ 51 → ⊥) → Puts (n ∷ 44 ∷ []) s s′ r → ConstantBy w s s′ r
-  constant-letter f m p v t e x = put-type t (f v t e x m) (omega arith) p
+-- ## Variables
 
 -- only `var` is a variable
 var-word : (v : Word) → ruleNo (row v .rule) ≡ 1 → v ≡ VAR

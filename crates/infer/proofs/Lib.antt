@@ -1,4 +1,3 @@
-pub mod RoleLaws
 pub mod StepLaws
 pub mod EndLaws
 pub mod WalkTable

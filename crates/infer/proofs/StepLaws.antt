@@ -8,24 +8,24 @@ use lib.ListN.{length, getD}
 use lib.Seq.{length-sets}
 use Rattle.semantics.specs.Bytes.{Bytes, hex}
 use Rattle.semantics.specs.Ty.{Ty, tAny, base, ∅ᶠ}
-use Rattle.semantics.specs.Sheet.{Role, plain, condition, answer, inner, Typing, constant, varType, element, slice as slicing, listing, mapping, calling, operator, unary, casing, membership, comprehension}
+use Rattle.semantics.specs.Sheet.{Role, plain, condition, inner, answer, Typing, constant, varType, element, slice as slicing, listing, mapping, calling, operator, unary, casing, membership, comprehension}
 use Rattle.semantics.specs.Walk.{asked, require, aBool}
 use Rattle.ty.specs.Read.{kindOf}
 use Rattle.ty.specs.Kind.{SomeKind}
 use Rattle.ty.proofs.KindLaws.{two-at, kind-at}
-use Rattle.unify_run.proofs.Size.{line-two}
-use Rattle.walk_run.specs.Run.{Kept, empty, over, kept, both, items, last, entries, arms, start, keepFirst, keepTwo, keepItem, keepEntry, keepAnswer, child}
+use Rattle.walk_run.specs.Run.{Kept, empty, over, kept, both, items, last, entries, arms, start, keepFirst, keepItem, keepEntry, child}
 use Rattle.report.specs.Report.{Adds}
 use Rattle.report.specs.declared.Tally.{Tally}
 use Rattle.report.proofs.ReportLaws.{adds-none}
-use Rattle.kept.specs.State.{place, StAs, FineKept, ChildAt, LastChild, FirstForm, ArmForm, Keeps, SomeItem, ItemKept, SomeEntry, EntryKept, SomeArm, ArmKept}
-use Rattle.kept.specs.declared.St.{St}
-use Rattle.kept.specs.declared.Keep.{Keep}
-use Rattle.kept.specs.declared.Keep.the-variants.{On, Large}
-use Rattle.kept.proofs.FineLaws.{FineSome, start-fine, child-fine, child-last}
-use Rattle.infer.specs.Steps.{typingNo, roleNo, Items, Lasts, Entries, RoomIn, StepAt, SomeStep, TwoKept, AnswerKept, KeptBy, AskedBy, Steps}
+use Rattle.exprs.specs.State.{StAs, FineKept, ChildAt, LastChild, FirstForm, Keeps, SomeItem, ItemKept, SomeEntry, EntryKept, SomeArm}
+use Rattle.exprs.specs.declared.state.St.{St}
+use Rattle.exprs.specs.declared.state.Keep.{Keep}
+use Rattle.exprs.specs.declared.state.Keep.the-variants.{On, Large}
+use Rattle.exprs.proofs.FineLaws.{FineSome, start-fine, child-fine, child-last}
+use Rattle.exprs.specs.Rules.{typingNo, roleNo, TwoKept, AnswerKept}
+use Rattle.infer.specs.Steps.{AskedBy, Items, Lasts, Entries, RoomIn, StepAt, SomeStep, KeptBy, Steps}
 use Rattle.infer.specs.declared.step.Stepped.the-variants.{On as Next, Large as Stop}
-use Rattle.infer.proofs.RoleLaws.{Missed, missed-out}
+use Rattle.exprs.proofs.RoleLaws.{Missed, missed-out}
 
 -- ## Rules by their numbers
 
@@ -89,59 +89,6 @@ nothing-first comprehension i e a b c d = absurd (d e)
 
 pub start-empty : {s : Bytes} {r : St} (q : Typing) (i : ℕ) → i ≡ typingNo q → (i ≡ 4 → ⊥) → (i ≡ 5 → ⊥) → (i ≡ 9 → ⊥) → (i ≡ 11 → ⊥) → StAs empty s r → StAs (start q) s r × FineKept (start q)
 start-empty q i e a b c d z = (rw (nothing-first q i e a b c d) z, start-fine q)
-
--- ## The first two
-
-module _ {st r : St} {n : ℕ} where
-  pub two-second : 0 < st .len → ((s : Bytes) (u t : Ty) → ChildAt (kept u) t s st n → StAs (both u t) s r) → TwoKept st n r
-  unfolding keepTwo place
-  two-second h f s k t g c = go k g c
-    where
-      go : (k : Kept) → FirstForm k → ChildAt k t s st n → StAs (keepTwo k t) s r
-      go empty g c = absurd (omega (arith, c .state .len))
-      go (kept u) g c = f s u t c
-      go over g c = absurd g
-      go (both a b) g c = absurd g
-      go (items e) g c = absurd g
-      go (last e) g c = absurd g
-      go (entries fs) g c = absurd g
-      go (arms ms) g c = absurd g
-
-  pub two-first : st .len ≤ 0 → ((s : Bytes) (k : Kept) (t : Ty) → FirstForm k → ChildAt k t s st n → StAs (keepFirst k t) s r) → TwoKept st n r
-  unfolding keepTwo keepFirst place
-  two-first h f s k t g c = go k g c
-    where
-      go : (k : Kept) → FirstForm k → ChildAt k t s st n → StAs (keepTwo k t) s r
-      go empty g c = f s empty t g c
-      go (kept u) g c = absurd (omega (arith, c .state .len, line-two u))
-      go over g c = absurd g
-      go (both a b) g c = absurd g
-      go (items e) g c = absurd g
-      go (last e) g c = absurd g
-      go (entries fs) g c = absurd g
-      go (arms ms) g c = absurd g
-
--- ## An answer of a CASE
-
-pub answer-kept : {i : ℕ} {s s′ : Bytes} {st r : St} {n : ℕ} → i ≡ 2 → ArmKept s s′ st n r → AnswerKept i s s′ st n r
-unfolding roleNo
-answer-kept {i} {s} {s′} {st} {r} {n} e a = record { long = a .long; kept = go }
-  where
-    go : (p : Role) (k : Kept) (t : Ty) → i ≡ roleNo p → ArmForm k → ChildAt k t s st n → StAs (keepAnswer p k t) s′ r
-    go plain k t z f c = absurd (omega arith)
-    go condition k t z f c = absurd (omega arith)
-    go answer k t z f c = a .kept k t f c
-    go (inner q) k t z f c = absurd (omega arith)
-
-pub answer-other : {i : ℕ} {s : Bytes} {st : St} {n : ℕ} → (i ≡ 2 → ⊥) → AnswerKept i s s st n st
-unfolding roleNo
-answer-other {i} {s} {st} {n} e = record { long = refl; kept = go }
-  where
-    go : (p : Role) (k : Kept) (t : Ty) → i ≡ roleNo p → ArmForm k → ChildAt k t s st n → StAs (keepAnswer p k t) s st
-    go plain k t z f c = c .state
-    go condition k t z f c = c .state
-    go answer k t z f c = absurd (e z)
-    go (inner q) k t z f c = c .state
 
 -- ## What is kept, by the number of the rule
 

@@ -17,11 +17,12 @@ use Rattle.hir.specs.declared.valid.Kids.{Kids}
 use Rattle.hir.proofs.PlaceLaws.{classOf, class-is}
 use Rattle.report.specs.declared.Tally.{Tally}
 use Rattle.walk_run.specs.Run.{start}
-use Rattle.kept.specs.State.{StAs, FineKept}
-use Rattle.kept.specs.declared.St.{St}
-use Rattle.finish.specs.End.{Countable}
-use Rattle.finish.specs.declared.Ended.{Ended}
-use Rattle.infer.specs.Steps.{typingNo, ruleNo, roleNo, SomeStep, SteppedBy, EnvAs, SomeEnd, EndedBy, SpeltAs}
+use Rattle.exprs.specs.State.{StAs, FineKept}
+use Rattle.exprs.specs.declared.state.St.{St}
+use Rattle.exprs.specs.End.{Countable}
+use Rattle.exprs.specs.declared.state.Ended.{Ended}
+use Rattle.exprs.specs.Rules.{typingNo, ruleNo, roleNo}
+use Rattle.infer.specs.Steps.{SomeStep, SteppedBy, EnvAs, SomeEnd, EndedBy, SpeltAs}
 use Rattle.infer.specs.declared.step.Env.{Env as Binds}
 use Rattle.infer.specs.declared.step.Stepped.{Stepped}
 use Rattle.infer.specs.declared.step.Stepped.the-variants.{On, Large}

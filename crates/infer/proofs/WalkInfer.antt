@@ -15,9 +15,9 @@ use Rattle.line.specs.Line.{ReadAs}
 use Rattle.line.specs.Known.{FineAt}
 use Rattle.line.specs.declared.line.Head.{Head as Seen}
 use Rattle.line.specs.declared.line.HirId.{HirId}
-use Rattle.finish.specs.End.{EndedAs, Countable}
-use Rattle.finish.specs.declared.Ended.{Ended}
-use Rattle.finish.specs.declared.Ended.the-variants.{Typed, Large as Ended·Large}
+use Rattle.exprs.specs.End.{EndedAs, Countable}
+use Rattle.exprs.specs.declared.state.Ended.{Ended}
+use Rattle.exprs.specs.declared.state.Ended.the-variants.{Typed, Large as Ended·Large}
 use Rattle.hir.specs.Check.{KidsAs}
 use Rattle.hir.specs.declared.valid.Kids.{Kids as Hung}
 use Rattle.text.proofs.Laws.{back}
@@ -29,9 +29,10 @@ use Rattle.report.proofs.ReportLaws.{adds-then}
 use Rattle.report.specs.Report.{Adds}
 use Rattle.report.specs.declared.Tally.{Tally}
 use Rattle.walk_run.specs.Run.{Kept, empty, over, kept, both, items, last, entries, arms, start, child, end, Told, told, tooMuch, stopped, passed, after, kids, Ran, halted, typed, concluded, judged}
-use Rattle.kept.specs.State.{behind as behindOf, StAs, Fine, FineKept}
-use Rattle.kept.specs.declared.St.{St}
-use Rattle.infer.specs.Steps.{typingNo, roleNo, Before, StepAt, SomeStep, SteppedAs, Steps, SteppedBy, EnvAs, EndAt, SomeEnd, EndedBy, SpeltAs}
+use Rattle.exprs.specs.State.{behind as behindOf, StAs, Fine, FineKept}
+use Rattle.exprs.specs.declared.state.St.{St}
+use Rattle.exprs.specs.Rules.{typingNo, roleNo}
+use Rattle.infer.specs.Steps.{Before, StepAt, SomeStep, SteppedAs, Steps, SteppedBy, EnvAs, EndAt, SomeEnd, EndedBy, SpeltAs}
 use Rattle.infer.specs.declared.step.Stepped.{Stepped}
 use Rattle.infer.specs.declared.step.Stepped.the-variants.{On, Large}
 use Rattle.infer.specs.declared.step.Env.{Env as Binds}

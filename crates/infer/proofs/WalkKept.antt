@@ -25,8 +25,8 @@ use Rattle.walk_run.specs.Depth.{levels}
 use Rattle.walk_run.specs.Run.{Kept, empty, over, kept, both, items, last, entries, arms, start, unlessLarge, keepFirst, keepTwo, meetItem, keepItem, keepEntry, keepArm, keepAnswer, child}
 use Rattle.walk_run.proofs.Levels.{Low}
 use Rattle.walk_run.proofs.LevelsUnify.{LowAnswer, unify-low}
-use Rattle.kept.specs.State.{listText, textOf, place, behind, full, StAs, Fine, FineKept}
-use Rattle.kept.specs.declared.St.{St}
+use Rattle.exprs.specs.State.{listText, textOf, place, behind, full, StAs, Fine, FineKept}
+use Rattle.exprs.specs.declared.state.St.{St}
 use Rattle.infer.specs.Steps.{Nothing, AtMostOne, One, Two, Items, Lasts, LastOne, Entries, Arms, Before, Whole}
 use Rattle.infer.proofs.WalkTable.{KidsOf}
 

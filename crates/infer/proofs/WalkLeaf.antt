@@ -21,9 +21,9 @@ use Rattle.hir.proofs.CheckLaws.{no-size}
 use Rattle.hir.proofs.LinesLaws.{inner-under}
 use Rattle.report.specs.declared.Tally.{Tally}
 use Rattle.walk_run.specs.Run.{Kept, empty, start}
-use Rattle.kept.specs.State.{StAs, FineKept}
-use Rattle.kept.specs.declared.St.{St}
-use Rattle.finish.specs.declared.Ended.{Ended}
+use Rattle.exprs.specs.State.{StAs, FineKept}
+use Rattle.exprs.specs.declared.state.St.{St}
+use Rattle.exprs.specs.declared.state.Ended.{Ended}
 use Rattle.infer.specs.Steps.{SomeEnd, EndedBy}
 use Rattle.infer.specs.declared.step.Env.{Env as Binds}
 use Rattle.infer.specs.Walks.{ExprWalked, Leaf, LeafAsk, LeafWalked, ToldAs}

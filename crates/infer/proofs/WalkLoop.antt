@@ -20,8 +20,8 @@ use Rattle.walk_run.specs.Run.{Kept, start, child, end, Kids, stopped, passed, 
 use Rattle.walk_run.specs.Depth.{levels}
 use Rattle.walk_run.proofs.Fine.{walk-fine}
 use Rattle.walk_run.proofs.Theorem.{step-run}
-use Rattle.kept.specs.State.{StAs, FineKept}
-use Rattle.kept.specs.declared.St.{St}
+use Rattle.exprs.specs.State.{StAs, FineKept}
+use Rattle.exprs.specs.declared.state.St.{St}
 use Rattle.bounds.proofs.Heights.{depth-fits, children-low}
 use Rattle.infer.specs.Walks.{resultOf, ExprAt}
 use Rattle.infer.specs.declared.walk.Cur.{Cur}

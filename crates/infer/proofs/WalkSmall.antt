@@ -28,9 +28,10 @@ use Rattle.report.specs.declared.Tally.{Tally}
 use Rattle.report.proofs.ReportLaws.{faults-append}
 use Rattle.walk_run.specs.Run.{Kept, empty, over, kept, both, items, last, entries, arms, Kids as Ran, stopped, passed, after}
 use Rattle.walk_run.proofs.Levels.{Low}
-use Rattle.kept.specs.State.{Fine, FineKept}
+use Rattle.exprs.specs.State.{Fine, FineKept}
 use Rattle.bounds.proofs.Rooms.{low-fit}
-use Rattle.infer.specs.Steps.{typingNo, ruleNo, RoomIn, ChildRoom, RoomOf, SpeltAs}
+use Rattle.exprs.specs.Rules.{typingNo, ruleNo}
+use Rattle.infer.specs.Steps.{RoomIn, ChildRoom, RoomOf, SpeltAs}
 use Rattle.infer.proofs.WalkKept.{LowKept, weak}
 use Rattle.infer.proofs.EndLaws.{name-spelt}
 

@@ -15,7 +15,7 @@ use Rattle.semantics.proofs.Regular.{regular-true}
 use Rattle.line.specs.Line.{HeadIs, ReadAs}
 use Rattle.line.specs.declared.line.Head.{Head as Seen}
 use Rattle.line.specs.declared.line.HirId.{HirId}
-use Rattle.finish.specs.End.{Countable}
+use Rattle.exprs.specs.End.{Countable}
 use Rattle.hir.specs.Lines.{Lines, Met}
 use Rattle.hir.proofs.LinesLaws.{Inner, AllIn, one-in, read-at}
 use Rattle.ty.specs.Parts.{TypeAt}
@@ -27,8 +27,8 @@ use Rattle.walk_run.specs.Run.{Kept, start, child, end, Kids, stopped, after, h
 use Rattle.walk_run.specs.Depth.{levels}
 use Rattle.walk_run.proofs.Fine.{FineRes, walk-fine}
 use Rattle.walk_run.proofs.Silent.{entering-run}
-use Rattle.kept.specs.State.{StAs, Fine, FineKept}
-use Rattle.kept.specs.declared.St.{St}
+use Rattle.exprs.specs.State.{StAs, Fine, FineKept}
+use Rattle.exprs.specs.declared.state.St.{St}
 use Rattle.bounds.proofs.Growth.{tree-faults, asked-few}
 use Rattle.infer.specs.Steps.{EnvAs}
 use Rattle.infer.specs.declared.step.Env.{Env as Binds}

@@ -1,19 +1,15 @@
--- An expression by the numbers of its line: its rule, the roles of its children, and what its steps require and ensure.
+-- The steps of an expression by the number of its rule: what they require and ensure.
 use mathlib.Core.Path.{_≡_}
-use mathlib.Core.List.{List, [], _∷_, map}
+use mathlib.Core.List.{[], map}
 use mathlib.Core.Option.{Option, none, some}
-use mathlib.Core.Bool.{cond}
 use Prim.Native.Nat.{ℕ, _+_, _*_, _<_, _≤_}
-use lib.Dec.{eqb}
 use lib.ListN.{length}
 use lib.Seq.{slice}
 use Rattle.semantics.specs.Limits.{typeLimit}
-use Rattle.semantics.specs.Codes.{comma}
 use Rattle.semantics.specs.Bytes.{Bytes, hex}
-use Rattle.semantics.specs.Ty.{Ty, line}
-use Rattle.semantics.specs.Sheet.{Word, VAR, Head, variableOf, Role, plain, condition, answer, inner, Typing, constant, varType, element, slice as slicing, listing, mapping, calling, operator, unary, casing, membership, comprehension, Rule, silent, entering, typed, row, rule, roles, low, high, present, armRoles}
+use Rattle.semantics.specs.Ty.{Ty}
+use Rattle.semantics.specs.Sheet.{VAR, Head, variableOf, Role, Typing, constant, varType, element, slice as slicing, listing, mapping, calling, operator, unary, casing, membership, comprehension, typed, rule}
 use Rattle.semantics.specs.Walk.{Env, asked, varTypeIn, kindType}
-use Rattle.line.specs.Rows.{wordNo}
 use Rattle.line.specs.Line.{HeadIs}
 use Rattle.line.specs.declared.line.Head.{Head as Seen}
 use Rattle.hir.specs.Bind.{BindsAt}
@@ -21,49 +17,18 @@ use Rattle.hir.specs.Bind.{kindOf as bindKind}
 use Rattle.ty.specs.Read.{kindOf}
 use Rattle.builtins.specs.Rows.{Returned}
 use Rattle.unify.specs.Work.{slots}
-use Rattle.walk_run.specs.Run.{Kept, empty, over, kept, both, items, last, entries, arms, keepTwo, keepAnswer, child, told, end}
+use Rattle.walk_run.specs.Run.{Kept, empty, over, kept, both, items, last, entries, arms, child, told, end}
 use Rattle.report.specs.Report.{Adds}
 use Rattle.report.specs.declared.Tally.{Tally}
-use Rattle.kept.specs.State.{StAs, FineKept, ChildAt, FirstForm, ArmForm, ItemRoom, Keeps}
-use Rattle.kept.specs.declared.St.{St}
-use Rattle.kept.specs.declared.Keep.{Keep}
-use Rattle.finish.specs.End.{Ends, Countable}
-use Rattle.finish.specs.declared.Ended.{Ended}
+use Rattle.exprs.specs.State.{StAs, FineKept, ChildAt, FirstForm, ArmForm, ItemRoom, Keeps}
+use Rattle.exprs.specs.declared.state.St.{St}
+use Rattle.exprs.specs.declared.state.Keep.{Keep}
+use Rattle.exprs.specs.Rules.{typingNo, roleNo}
+use Rattle.exprs.specs.End.{Ends, Countable}
+use Rattle.exprs.specs.declared.state.Ended.{Ended}
 use Rattle.infer.specs.declared.step.Stepped.{Stepped}
 use Rattle.infer.specs.declared.step.Stepped.the-variants.{On, Large}
 use Rattle.infer.specs.declared.step.Env.{Env as Binds}
-
--- ## Numbers of rules and roles
-
-unfoldable pub typingNo : Typing → ℕ
-typingNo (constant t) = 0
-typingNo varType = 1
-typingNo element = 2
-typingNo slicing = 3
-typingNo listing = 4
-typingNo mapping = 5
-typingNo calling = 6
-typingNo operator = 7
-typingNo unary = 8
-typingNo casing = 9
-typingNo membership = 10
-typingNo comprehension = 11
-
-unfoldable pub ruleNo : Rule → ℕ
-ruleNo silent = 12
-ruleNo entering = 13
-ruleNo (typed q) = typingNo q
-
--- 1 must be a Bool, 2 counts for the answer, 0 any other
-unfoldable pub roleNo : Role → ℕ
-roleNo plain = 0
-roleNo condition = 1
-roleNo answer = 2
-roleNo (inner p) = 0
-
--- the roles under a CASE by its flag number and its count
-unfoldable pub caseRow : ℕ → ℕ → List Role
-caseRow f k = present (low f) plain (armRoles (cond (eqb (low f) 0) condition plain) k (present (high f) answer []))
 
 -- ## Which forms a rule keeps
 
@@ -228,17 +193,10 @@ pub record SomeStep (i r : ℕ) (s : Bytes) (st : St) (n : ℕ) (x : Bytes) : Ty
   pub role-no : r ≡ roleNo role
   pub at : StepAt typing role kept ty name s st n x
 
--- what the helpers ensure: what is kept, and what a child's type is asked for
-abbrev pub TwoKept : St → ℕ → St → Type 0
-TwoKept st n r = (s : Bytes) (k : Kept) (t : Ty) → FirstForm k → ChildAt k t s st n → StAs (keepTwo k t) s r
-
-pub record AnswerKept (i : ℕ) (s s′ : Bytes) (st : St) (n : ℕ) (r : St) : Type 0 where
-  pub long : length s′ ≡ length s
-  pub kept : (p : Role) (k : Kept) (t : Ty) → i ≡ roleNo p → ArmForm k → ChildAt k t s st n → StAs (keepAnswer p k t) s′ r
-
 abbrev pub KeptBy : ℕ → ℕ → Bytes → Bytes → St → ℕ → Bytes → Keep → Type 0
 KeptBy i r s s′ st n x a = (q : Typing) (p : Role) (k : Kept) (t : Ty) (m : Bytes) → i ≡ typingNo q → r ≡ roleNo p → StepAt q p k t m s st n x → Keeps (child q p k m t) s s′ a
 
+-- what a child's type is asked for
 abbrev pub AskedBy : ℕ → ℕ → Bytes → Bytes → Tally → Tally → Type 0
 AskedBy i kind out out′ y z = (p : Role) (t : Ty) → i ≡ roleNo p → kindOf t ≡ kind → Adds (asked p t) out out′ y z
 
@@ -304,13 +262,6 @@ EndedBy sheet b h s s′ st out out′ y r =
 pub record SpeltAs (name stop r : ℕ) : Type 0 where
   pub below : r ≤ stop
   pub same : (s : Bytes) → slice r stop s ≡ slice name stop s
-
--- a constant of one letter
-abbrev pub LetterBy : ℕ → ℕ → Type 0
-LetterBy w r = (v : Word) (t : Ty) → w ≡ wordNo v → row v .rule ≡ typed (constant t) → (w ≡ 51 → ⊥) → r ∷ comma ∷ [] ≡ line t
-
-abbrev pub ConstantBy : ℕ → Bytes → Bytes → ℕ → Type 0
-ConstantBy w s s′ r = (v : Word) (t : Ty) → w ≡ wordNo v → row v .rule ≡ typed (constant t) → Returned s s′ t r
 
 -- rules 0 to 5, whose ends add no fault and are never too large
 pub record SomeQuiet (i : ℕ) (sheet : Bytes) (b : Binds) (h : Seen) (s : Bytes) (st : St) : Type 0 where

@@ -16,8 +16,8 @@ use Rattle.hir.specs.Lines.{LineAt, Lines, Met}
 use Rattle.ty.specs.Parts.{TypeAt}
 use Rattle.report.specs.Report.{Adds}
 use Rattle.report.specs.declared.Tally.{Tally}
-use Rattle.finish.specs.declared.Ended.{Ended}
-use Rattle.finish.specs.declared.Ended.the-variants.{Typed, Large}
+use Rattle.exprs.specs.declared.state.Ended.{Ended}
+use Rattle.exprs.specs.declared.state.Ended.the-variants.{Typed, Large}
 use Rattle.walk_run.specs.Run.{Ran, halted, typed, judged}
 use Rattle.infer.specs.Steps.{EnvAs}
 use Rattle.infer.specs.declared.step.Env.{Env as Binds}

@@ -1,5 +1,4 @@
 // The types of a sheet's expressions (infer.rs).
-mod rule;
 mod statement;
 mod step;
 mod walk;

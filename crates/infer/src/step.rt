@@ -5,27 +5,27 @@ ghost use lib.ListN.{length};
 ghost use Rattle.semantics.specs.Sheet.{Typing};
 ghost use Rattle.walk_run.specs.Run.{start};
 ghost use Rattle.ty.specs.Kind.{SomeKind};
-ghost use Rattle.kept.specs.State.{StAs, FineKept, SomeArm};
-ghost use Rattle.finish.specs.End.{Countable};
-ghost use Rattle.infer.specs.Steps.{typingNo, SomeStep, TwoKept, AnswerKept, KeptBy, AskedBy, SteppedBy, SpeltAs, LetterBy, ConstantBy, SomeQuiet, QuietBy, SomeEnd, EndedBy};
-use crate::rule::ANSWER;
-use crate::rule::CALL;
-use crate::rule::CASING;
-use crate::rule::COMPREHENSION;
-use crate::rule::CONDITION;
-use crate::rule::CONSTANT;
-use crate::rule::ELEMENT;
-use crate::rule::LISTING;
-use crate::rule::MAPPING;
-use crate::rule::MEMBERSHIP;
-use crate::rule::OPERATOR;
-use crate::rule::SLICE;
-use crate::rule::UNARY;
-use crate::rule::VARIABLE;
-use crate::rule::rule_of;
-use finish::Ended;
-use kept::Keep;
-use kept::St;
+ghost use Rattle.exprs.specs.State.{StAs, FineKept};
+ghost use Rattle.exprs.specs.End.{Countable};
+ghost use Rattle.exprs.specs.Rules.{typingNo};
+ghost use Rattle.infer.specs.Steps.{AskedBy, SomeStep, KeptBy, SteppedBy, SpeltAs, SomeQuiet, QuietBy, SomeEnd, EndedBy};
+use exprs::CALL;
+use exprs::CASING;
+use exprs::COMPREHENSION;
+use exprs::CONDITION;
+use exprs::CONSTANT;
+use exprs::ELEMENT;
+use exprs::Ended;
+use exprs::Keep;
+use exprs::LISTING;
+use exprs::MAPPING;
+use exprs::MEMBERSHIP;
+use exprs::OPERATOR;
+use exprs::SLICE;
+use exprs::St;
+use exprs::UNARY;
+use exprs::VARIABLE;
+use exprs::rule_of;
 use line::Head;
 use report::Tally;
 
@@ -47,33 +47,12 @@ pub fn start(rule: usize, work: &mut [u8]) -> St
     ensures { λ r. ⌜ (length (now (work .exit)) ≡ length (now (work .entry))) × ((q : Typing) → rule ≡ typingNo q → StAs (start q) (now (work .exit)) r × FineKept (start q)) ⌝ }
 {
     match rule {
-        LISTING => kept::start_list(work),
-        MAPPING => kept::start_map(work),
-        CASING => kept::start_arms(),
-        COMPREHENSION => kept::start_list(work),
-        _ => kept::start_empty(),
+        LISTING => exprs::start_list(work),
+        MAPPING => exprs::start_map(work),
+        CASING => exprs::start_arms(),
+        COMPREHENSION => exprs::start_list(work),
+        _ => exprs::start_empty(),
     }
-}
-
-// The first two.
-fn keep_two(st: St, n: usize) -> St
-    ensures { λ r. ⌜ TwoKept st n r ⌝ }
-{
-    if st.len > 0 {
-        return kept::keep_second(st, n);
-    }
-    kept::keep_first(st, n)
-}
-
-// An answer of a CASE; a condition only stands behind.
-fn keep_answer(role: usize, st: St, work: &mut [u8], n: usize) -> St
-    requires { ⌜ SomeArm (now work) st n ⌝ }
-    ensures { λ r. ⌜ AnswerKept role (now (work .entry)) (now (work .exit)) st n r ⌝ }
-{
-    if role == ANSWER {
-        return kept::case_arm(st, work, n);
-    }
-    st
 }
 
 // What is kept after a child.
@@ -82,16 +61,16 @@ fn keep(rule: usize, role: usize, st: St, work: &mut [u8], n: usize, name: &[u8]
     ensures { λ r. ⌜ KeptBy rule role (now (work .entry)) (now (work .exit)) st n (now (name .entry)) r ⌝ }
 {
     match rule {
-        ELEMENT => Keep::On(kept::keep_first(st, n)),
-        SLICE => Keep::On(kept::keep_first(st, n)),
-        LISTING => kept::list_item(st, work, n),
-        MAPPING => kept::map_value(st, work, n, name),
-        CALL => Keep::On(kept::keep_first(st, n)),
-        OPERATOR => Keep::On(keep_two(st, n)),
-        UNARY => Keep::On(kept::keep_first(st, n)),
-        CASING => Keep::On(keep_answer(role, st, work, n)),
-        MEMBERSHIP => Keep::On(keep_two(st, n)),
-        COMPREHENSION => Keep::On(kept::keep_last(st, n)),
+        ELEMENT => Keep::On(exprs::keep_first(st, n)),
+        SLICE => Keep::On(exprs::keep_first(st, n)),
+        LISTING => exprs::list_item(st, work, n),
+        MAPPING => exprs::map_value(st, work, n, name),
+        CALL => Keep::On(exprs::keep_first(st, n)),
+        OPERATOR => Keep::On(exprs::keep_two(st, n)),
+        UNARY => Keep::On(exprs::keep_first(st, n)),
+        CASING => Keep::On(exprs::keep_answer(role, st, work, n)),
+        MEMBERSHIP => Keep::On(exprs::keep_two(st, n)),
+        COMPREHENSION => Keep::On(exprs::keep_last(st, n)),
         _ => Keep::On(st),
     }
 }
@@ -102,7 +81,7 @@ fn ask(role: usize, kind: u8, out: &mut [u8], tally: Tally) -> Tally
     ensures { λ r. ⌜ AskedBy role kind (now (out .entry)) (now (out .exit)) tally r ⌝ }
 {
     if role == CONDITION {
-        return report::require_bool(kind, out, tally);
+        return operators::require_bool(kind, out, tally);
     }
     tally
 }
@@ -136,66 +115,20 @@ pub fn spelt(k: Head) -> usize
     if k.name < k.stop { k.name } else { k.stop }
 }
 
-// The letter of a constant's type, by the word; `mpr` has two. Made by tools/line_table.py.
-fn letter_of(word: usize) -> u8
-    ensures { λ r. ⌜ LetterBy word r ⌝ }
-{
-    match word {
-        line::NULL => ty::NULL,
-        line::BOOL => ty::BOOL,
-        line::INT => ty::INT,
-        line::FLT => ty::FLOAT,
-        line::STR => ty::STRING,
-        line::VAR => ty::UNKNOWN,
-        line::PAR => ty::ANY,
-        line::UNR => ty::UNKNOWN,
-        line::EXI => ty::UNKNOWN,
-        line::PROP => ty::ANY,
-        line::IDX => ty::UNKNOWN,
-        line::SLI => ty::UNKNOWN,
-        line::LIS => ty::UNKNOWN,
-        line::MAP => ty::UNKNOWN,
-        line::KEY => ty::UNKNOWN,
-        line::CALL => ty::UNKNOWN,
-        line::BIN => ty::UNKNOWN,
-        line::UNA => ty::UNKNOWN,
-        line::CASE => ty::UNKNOWN,
-        line::ISN => ty::BOOL,
-        line::IN => ty::UNKNOWN,
-        line::PAT => ty::BOOL,
-        line::LCP => ty::UNKNOWN,
-        line::PCP => ty::UNKNOWN,
-        line::LPR => ty::BOOL,
-        line::MPR => ty::MAP,
-        _ => ty::UNKNOWN,
-    }
-}
-
-// The type of a constant.
-fn constant(word: usize, work: &mut [u8]) -> usize
-    requires { ⌜ 1024 ≤ length (now work) ⌝ }
-    ensures { λ r. ⌜ ConstantBy word (now (work .entry)) (now (work .exit)) r ⌝ }
-{
-    if word == line::MPR {
-        return finish::put_pair(work, ty::MAP, ty::CLOSE);
-    }
-    finish::put_letter(work, letter_of(word))
-}
-
 // The lengths of types that add no fault.
 fn quiet(rule: usize, b: Env, sheet: &[u8], h: Head, st: St, work: &mut [u8]) -> usize
     requires { ⌜ SomeQuiet rule (now sheet) b h (now work) st ⌝ }
     ensures { λ r. ⌜ QuietBy rule (now (sheet .entry)) b h (now (work .entry)) (now (work .exit)) st r ⌝ }
 {
     match rule {
-        CONSTANT => constant(h.word, work),
+        CONSTANT => exprs::constant(h.word, work),
         VARIABLE => {
             let v = h.var;
-            finish::var_type(hir::bind_kind(sheet, b.from, b.to, v), work)
+            exprs::var_type(hir::bind_kind(sheet, b.from, b.to, v), work)
         }
-        ELEMENT => finish::end_element(st, work),
-        SLICE => finish::end_slice(st, work),
-        LISTING => finish::end_list(st, work),
+        ELEMENT => exprs::end_element(st, work),
+        SLICE => exprs::end_slice(st, work),
+        LISTING => exprs::end_list(st, work),
         _ => st.len,
     }
 }
@@ -218,13 +151,13 @@ pub fn finish(
         CALL => {
             let n = spelt(h);
             let e = h.stop;
-            finish::end_call(&sheet[n..e], st, work, out, tally)
+            exprs::end_call(&sheet[n..e], st, work, out, tally)
         }
-        OPERATOR => finish::infer_binop(h.num, st, work, out, tally),
-        UNARY => finish::infer_unaryop(h.num, work, out, tally, st),
-        CASING => finish::end_case(st, work, out, tally),
-        MEMBERSHIP => finish::check_in_list(st, work, out, tally),
-        COMPREHENSION => finish::end_last(st, work, out, tally),
+        OPERATOR => operators::infer_binop(h.num, st, work, out, tally),
+        UNARY => operators::infer_unaryop(h.num, work, out, tally, st),
+        CASING => exprs::end_case(st, work, out, tally),
+        MEMBERSHIP => operators::check_in_list(st, work, out, tally),
+        COMPREHENSION => exprs::end_last(st, work, out, tally),
         _ => Ended::Typed {
             len: quiet(rule, b, sheet, h, st, work),
             tally,

@@ -3,16 +3,16 @@ ghost use mathlib.Core.Path.{_≡_};
 ghost use Prim.Native.Nat.{_+_, _<_, _≤_};
 ghost use lib.ListN.{length};
 ghost use Rattle.infer.specs.Walks.{EntersAs, ToldAs, ExprAsk, ExprWalked, LeafAsk, LeafWalked, AnyAsk, AnyWalked, PatternAsk, PatternWalked};
-use crate::rule::role_of;
-use crate::rule::rule_of;
 use crate::step::Env;
 use crate::step::Stepped;
 use crate::step::finish;
 use crate::step::spelt;
 use crate::step::start;
 use crate::step::step;
-use finish::Ended;
-use kept::St;
+use exprs::Ended;
+use exprs::St;
+use exprs::role_of;
+use exprs::rule_of;
 use line::Head;
 use line::HirId;
 use line::class_of;
@@ -101,7 +101,7 @@ pub fn infer_leaf(
     let behind = past(cur, h);
     let here = cur.line;
     told(
-        finish(b, sheet, h, kept::start_empty(), work, out, tally),
+        finish(b, sheet, h, exprs::start_empty(), work, out, tally),
         here,
         behind,
     )

@@ -10,10 +10,9 @@ use lib.Seq.{sets}
 use Rattle.semantics.specs.Codes.{lineFeed, comma}
 use Rattle.semantics.specs.Bytes.{Bytes, text, shown}
 use Rattle.semantics.specs.Ty.{Ty}
-use Rattle.semantics.specs.Walk.{Fault, E2009, E2010, E2011, E2013, Top, open?, numeric}
+use Rattle.semantics.specs.Walk.{Fault, E2009, E2010, E2011, E2013, Top, open?}
 use Rattle.semantics.specs.Calls.{faultLine, topLine}
 use Rattle.ty.specs.Read.{kindOf}
-use Rattle.ty.specs.Kind.{SomeKind}
 use Rattle.report.specs.declared.Tally.{Tally}
 
 -- the lines of some faults
@@ -78,8 +77,3 @@ IsFaultCode c = IsCode c ⊎ ((c ≡ 2012) ⊎ (c ≡ 5012))
 -- the answer for every type of this kind
 abbrev pub OpenKind : ℕ → Bool → Type 0
 OpenKind k r = (u : Ty) → kindOf u ≡ k → r ≡ open? u
-
--- the kind of `numeric` of every type of this kind, and of some type
-pub record NumericKind (k r : ℕ) : Type 0 where
-  pub is : (u : Ty) → kindOf u ≡ k → r ≡ kindOf (numeric u)
-  pub some : SomeKind r

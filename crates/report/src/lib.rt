@@ -5,20 +5,15 @@ ghost use Prim.Native.Nat.{_+_, _<_, _^_};
 ghost use lib.ListN.{length};
 ghost use Rattle.semantics.specs.Bytes.{text};
 ghost use Rattle.semantics.specs.Ty.{Ty, line};
-ghost use Rattle.semantics.specs.Walk.{Fault, E2012, E5012, require, aNumber, aString, aBool};
+ghost use Rattle.semantics.specs.Walk.{Fault, E2012, E5012};
 ghost use Rattle.semantics.specs.Builtins.{signature};
 ghost use Rattle.semantics.specs.Calls.{faultText};
 ghost use Rattle.ty.specs.Read.{kindOf};
 ghost use Rattle.ty.specs.Kind.{SomeKind};
 ghost use Rattle.builtins.specs.Rows.{builtinOf, noBuiltin};
-ghost use Rattle.report.specs.Report.{Appends, Starts, Adds, codeFault, IsCode, IsFaultCode, OpenKind, NumericKind, NumbersLine, typeText, endText};
+ghost use Rattle.report.specs.Report.{Appends, Starts, Adds, codeFault, IsCode, IsFaultCode, OpenKind, NumbersLine, typeText, endText};
 use text::COMMA;
 use ty::ANY;
-use ty::BOOL;
-use ty::FLOAT;
-use ty::INT;
-use ty::NUM;
-use ty::STRING;
 use ty::UNKNOWN;
 
 // The codes of faults, by the names that the Rust gives them.
@@ -124,55 +119,6 @@ pub fn is_open(kind: u8) -> bool
         return true;
     }
     kind == UNKNOWN
-}
-
-// The letter of the type that arithmetic goes on with: a numeric or open type itself, else Unknown.
-pub fn numeric(kind: u8) -> u8
-    ensures { λ r. ⌜ NumericKind kind r ⌝ }
-{
-    match kind {
-        ANY => ANY,
-        INT => INT,
-        FLOAT => FLOAT,
-        NUM => NUM,
-        _ => UNKNOWN,
-    }
-}
-
-pub fn require_numeric(kind: u8, out: &mut [u8], t: Tally) -> Tally
-    requires { ⌜ (t .fill + 128 < 2 ^ 64) × (t .faults + 1 < 2 ^ 64) × SomeKind kind ⌝ }
-    ensures { λ r. ⌜ ((u : Ty) → kindOf u ≡ kind → Adds (require aNumber u) (now (out .entry)) (now (out .exit)) t r) ⌝ }
-{
-    if numeric(kind) == kind {
-        return t;
-    }
-    fault(out, t, E2009, kind)
-}
-
-pub fn require_string(kind: u8, out: &mut [u8], t: Tally) -> Tally
-    requires { ⌜ (t .fill + 128 < 2 ^ 64) × (t .faults + 1 < 2 ^ 64) × SomeKind kind ⌝ }
-    ensures { λ r. ⌜ ((u : Ty) → kindOf u ≡ kind → Adds (require aString u) (now (out .entry)) (now (out .exit)) t r) ⌝ }
-{
-    if is_open(kind) {
-        return t;
-    }
-    if kind == STRING {
-        return t;
-    }
-    fault(out, t, E2010, kind)
-}
-
-pub fn require_bool(kind: u8, out: &mut [u8], t: Tally) -> Tally
-    requires { ⌜ (t .fill + 128 < 2 ^ 64) × (t .faults + 1 < 2 ^ 64) × SomeKind kind ⌝ }
-    ensures { λ r. ⌜ ((u : Ty) → kindOf u ≡ kind → Adds (require aBool u) (now (out .entry)) (now (out .exit)) t r) ⌝ }
-{
-    if is_open(kind) {
-        return t;
-    }
-    if kind == BOOL {
-        return t;
-    }
-    fault(out, t, E2011, kind)
 }
 
 // The line of a top expression's type.

@@ -23,8 +23,8 @@ use Rattle.infer.proofs.walk.infer_expr.Reads as infer-expr
 use Rattle.infer.proofs.walk.infer_expr.Kinds as infer-expr-kinds
 use Rattle.infer.proofs.walk.+check_pattern+check_tree+infer_expr.Lts-infer_expr as infer-expr-lts
 use Rattle.hir.proofs.kids_of.Reads as kids-of-reads
-use Rattle.infer.proofs.rule.role_of.Reads as role-of-reads
-use Rattle.infer.proofs.rule.rule_of.Reads as rule-of-reads
+use Rattle.exprs.proofs.role_of.Reads as role-of-reads
+use Rattle.exprs.proofs.rule_of.Reads as rule-of-reads
 use Rattle.infer.proofs.step.finish.Reads as finish-reads
 use Rattle.infer.proofs.step.spelt.Reads as spelt-reads
 use Rattle.infer.proofs.step.start.Reads as start-reads

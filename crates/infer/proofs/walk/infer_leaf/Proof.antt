@@ -8,7 +8,7 @@ use Rattle.infer.proofs.walk.infer_leaf.Lts as lts
 use Rattle.infer.proofs.step.finish.Reads as finish-reads
 use Rattle.infer.proofs.walk.past.Reads as past-reads
 use Rattle.infer.proofs.walk.told.Reads as told-reads
-use Rattle.kept.proofs.start_empty.Reads as start-empty-reads
+use Rattle.exprs.proofs.start_empty.Reads as start-empty-reads
 
 past-requires : tie.Need-past-requires
 past-requires c κs = leaf-past (c .before .before .before .pre)

@@ -1,7 +1,7 @@
 -- `told` meets its contract. Assumes nothing.
 use mathlib.Core.Path.{refl, sym, subst}
 use borrow.Author.Needs.{needs}
-use Rattle.finish.specs.declared.Ended.{Ended}
+use Rattle.exprs.specs.declared.state.Ended.{Ended}
 use Rattle.infer.specs.Walks.{ToldAs}
 use Rattle.infer.specs.declared.walk.Walk.the-variants.{Done, TooLarge}
 use Rattle.infer.proofs.walk.told.Statement.{statement}

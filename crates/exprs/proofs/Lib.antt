@@ -1,0 +1,9 @@
+pub mod StateLaws
+pub mod ChildLaws
+pub mod ItemLaws
+pub mod FineLaws
+pub mod Fronts
+pub mod States
+pub mod CallLaws
+pub mod RoleLaws
+pub mod LeafLaws

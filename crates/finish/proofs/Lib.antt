@@ -1,6 +1,0 @@
-pub mod Fronts
-pub mod States
-pub mod Meets
-pub mod OpLaws
-pub mod InLaws
-pub mod CallLaws

@@ -1,4 +1,0 @@
-pub mod StateLaws
-pub mod ChildLaws
-pub mod ItemLaws
-pub mod FineLaws

@@ -1,0 +1,4 @@
+pub mod Meets
+pub mod RequireLaws
+pub mod OpLaws
+pub mod InLaws
