@@ -1,64 +1,64 @@
--- The arms of `unify` as numbers, in the order of the Rust's `match`.
+-- Which arm of `unify` two types meet.
 use Prim.Native.Nat.{ℕ}
 use mathlib.Core.List.{[], _∷_}
 use mathlib.Core.Bool.{Bool, true, false, _&&_, _||_}
 use lib.Dec.{eqb, leb}
 use Rattle.semantics.specs.Ty.{tAny, tNull, tUnknown, Ty, base, tList, tMap, tNode, tRelationship, tUnion, among, matches, equal}
 use Rattle.semantics.specs.Unify.{numbers}
+use Rattle.unify.specs.Codes.{leftArm, rightArm, unknownArm, nullLeftArm, nullRightArm, numbersArm, listsArm, mapsArm, nodesArm, relationshipsArm, unionsArm, unionLeftArm, unionRightArm, apartArm}
 
--- two types that differ, neither Any, Unknown nor Null: 5 Num, 6 lists, 7 maps, 8 nodes, 9 relationships, 10 unions, 11 the first is a
--- union, 12 the second is one, 13 a mismatch
+-- two types that differ, neither Any, Unknown nor Null
 unfoldable pub pairArm : Ty → Ty → ℕ
-pairArm (base b) (base c) = elim (among b numbers && among c numbers) [ true ↦ 5 | false ↦ 13 ]
-pairArm (base b) (tList u) = 13
-pairArm (base b) (tMap gs) = 13
-pairArm (base b) (tNode ls) = 13
-pairArm (base b) (tRelationship n) = 13
-pairArm (base b) (tUnion us) = 12
-pairArm (tList t) (base c) = 13
-pairArm (tList t) (tList u) = 6
-pairArm (tList t) (tMap gs) = 13
-pairArm (tList t) (tNode ls) = 13
-pairArm (tList t) (tRelationship n) = 13
-pairArm (tList t) (tUnion us) = 12
-pairArm (tMap fs) (base c) = 13
-pairArm (tMap fs) (tList u) = 13
-pairArm (tMap fs) (tMap gs) = 7
-pairArm (tMap fs) (tNode ls) = 13
-pairArm (tMap fs) (tRelationship n) = 13
-pairArm (tMap fs) (tUnion us) = 12
-pairArm (tNode ls) (base c) = 13
-pairArm (tNode ls) (tList u) = 13
-pairArm (tNode ls) (tMap gs) = 13
-pairArm (tNode ls) (tNode ks) = 8
-pairArm (tNode ls) (tRelationship n) = 13
-pairArm (tNode ls) (tUnion us) = 12
-pairArm (tRelationship m) (base c) = 13
-pairArm (tRelationship m) (tList u) = 13
-pairArm (tRelationship m) (tMap gs) = 13
-pairArm (tRelationship m) (tNode ls) = 13
-pairArm (tRelationship m) (tRelationship n) = 9
-pairArm (tRelationship m) (tUnion us) = 12
-pairArm (tUnion ts) (base c) = 11
-pairArm (tUnion ts) (tList u) = 11
-pairArm (tUnion ts) (tMap gs) = 11
-pairArm (tUnion ts) (tNode ls) = 11
-pairArm (tUnion ts) (tRelationship n) = 11
-pairArm (tUnion ts) (tUnion us) = 10
+pairArm (base b) (base c) = elim (among b numbers && among c numbers) [ true ↦ numbersArm | false ↦ apartArm ]
+pairArm (base b) (tList u) = apartArm
+pairArm (base b) (tMap gs) = apartArm
+pairArm (base b) (tNode ls) = apartArm
+pairArm (base b) (tRelationship n) = apartArm
+pairArm (base b) (tUnion us) = unionRightArm
+pairArm (tList t) (base c) = apartArm
+pairArm (tList t) (tList u) = listsArm
+pairArm (tList t) (tMap gs) = apartArm
+pairArm (tList t) (tNode ls) = apartArm
+pairArm (tList t) (tRelationship n) = apartArm
+pairArm (tList t) (tUnion us) = unionRightArm
+pairArm (tMap fs) (base c) = apartArm
+pairArm (tMap fs) (tList u) = apartArm
+pairArm (tMap fs) (tMap gs) = mapsArm
+pairArm (tMap fs) (tNode ls) = apartArm
+pairArm (tMap fs) (tRelationship n) = apartArm
+pairArm (tMap fs) (tUnion us) = unionRightArm
+pairArm (tNode ls) (base c) = apartArm
+pairArm (tNode ls) (tList u) = apartArm
+pairArm (tNode ls) (tMap gs) = apartArm
+pairArm (tNode ls) (tNode ks) = nodesArm
+pairArm (tNode ls) (tRelationship n) = apartArm
+pairArm (tNode ls) (tUnion us) = unionRightArm
+pairArm (tRelationship m) (base c) = apartArm
+pairArm (tRelationship m) (tList u) = apartArm
+pairArm (tRelationship m) (tMap gs) = apartArm
+pairArm (tRelationship m) (tNode ls) = apartArm
+pairArm (tRelationship m) (tRelationship n) = relationshipsArm
+pairArm (tRelationship m) (tUnion us) = unionRightArm
+pairArm (tUnion ts) (base c) = unionLeftArm
+pairArm (tUnion ts) (tList u) = unionLeftArm
+pairArm (tUnion ts) (tMap gs) = unionLeftArm
+pairArm (tUnion ts) (tNode ls) = unionLeftArm
+pairArm (tUnion ts) (tRelationship n) = unionLeftArm
+pairArm (tUnion ts) (tUnion us) = unionsArm
 
--- 0 the first operand, 1 the second, 2 Unknown, 3 Null with the second, 4 Null with the first
+-- the arm of two types
 unfoldable pub armOf : Ty → Ty → ℕ
 armOf a b =
     elim (matches a (tAny ∷ [])) [
-      | true ↦ 1
+      | true ↦ rightArm
       | false ↦ elim (matches b (tAny ∷ [])) [
-        | true ↦ 0
+        | true ↦ leftArm
         | false ↦
             elim (matches a (tUnknown ∷ []) || matches b (tUnknown ∷ [])) [
-              | true ↦ 2
+              | true ↦ unknownArm
               | false ↦ elim (equal a b) [
-                | true ↦ 0
-                | false ↦ elim (matches a (tNull ∷ [])) [ true ↦ 3 | false ↦ elim (matches b (tNull ∷ [])) [ true ↦ 4 | false ↦ pairArm a b ] ]
+                | true ↦ leftArm
+                | false ↦ elim (matches a (tNull ∷ [])) [ true ↦ nullLeftArm | false ↦ elim (matches b (tNull ∷ [])) [ true ↦ nullRightArm | false ↦ pairArm a b ] ]
               ]
             ]
       ]
@@ -66,4 +66,4 @@ armOf a b =
 
 -- whether an arm needs inner answers
 unfoldable pub hasParts : ℕ → Bool
-hasParts r = eqb r 6 || (eqb r 7 || (leb 10 r && leb r 12))
+hasParts r = eqb r listsArm || (eqb r mapsArm || (leb unionsArm r && leb r unionRightArm))

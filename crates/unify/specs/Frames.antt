@@ -16,6 +16,7 @@ use Rattle.semantics.specs.All.{All}
 use Rattle.ty.specs.Parts.{TypeAt}
 use Rattle.ty.specs.Union.{TypesAt}
 use Rattle.unify_run.specs.Run.{Run, done, mismatch, large, verdict, checked, onDone, given, long, attach, keep, closeMap, runMaps, join, runVariants, runMembers, widen}
+use Rattle.unify.specs.Codes.{listsArm, mapsArm, unionsArm, pairNext, outerAlone, nothingLeft, notUnified, overLarge, twoSlots, partialLimit}
 use Rattle.unify.specs.Work.{Operand, slots}
 use Rattle.unify.specs.declared.Frame.{Frame}
 
@@ -63,20 +64,20 @@ Room s mark x y = mark + typeLimit + typeLimit * slots x y ≤ length s
 
 -- the pair that is next: [v, ve) and [w, we)
 pub record PairAt (s : Bytes) (mark : ℕ) (f : Frame) (t u : Ty) : Type 0 where
-  pub go : f .go ≡ 0
+  pub go : f .go ≡ pairNext
   pub first : Operand s (f .v) (f .ve) mark t
   pub second : Operand s (f .w) (f .we) mark u
   pub room : Room s mark t u
 
 pub record ListPairAt (s : Bytes) (mark : ℕ) (f : Frame) (t u : Ty) : Type 0 where
-  pub kind : f .kind ≡ 6
+  pub kind : f .kind ≡ listsArm
   pub pair : PairAt s mark f t u
   pub at : f .at ≡ mark + 2
   pub head : slice mark (mark + 2) s ≡ listLetter ∷ comma ∷ []
 
 pub record ListDoneAt (s : Bytes) (mark : ℕ) (f : Frame) (v : Ty) : Type 0 where
-  pub kind : f .kind ≡ 6
-  pub go : f .go ≡ 2
+  pub kind : f .kind ≡ listsArm
+  pub go : f .go ≡ nothingLeft
   pub at : TypeAt s mark (mark + f .n) (tList v)
 
 -- the bytes of entries, without the `!,` that ends them
@@ -97,12 +98,12 @@ pub record EntriesAt (s : Bytes) (p mark : ℕ) (fs : Fields) : Type 0 where
 -- what is kept of a map at the mark: n bytes, `K,` and entries, or nothing once it is over
 abbrev pub KeptAt : Bytes → ℕ → ℕ → Option Fields → Type 0
 KeptAt s mark n none = n ≡ 0
-KeptAt s mark n (some fs) = (n ≡ 2 + length (entriesOf fs)) × (n ≤ 1022) × (slice mark (mark + n) s ≡ mapLetter ∷ comma ∷ entriesOf fs)
+KeptAt s mark n (some fs) = (n ≡ 2 + length (entriesOf fs)) × (n ≤ partialLimit) × (slice mark (mark + n) s ≡ mapLetter ∷ comma ∷ entriesOf fs)
 
 -- the same with a name behind it: over as soon as the name alone is too much
 pub record NameKept (s : Bytes) (mark n : ℕ) (name : Bytes) (fs : Fields) : Type 0 where
   pub long : n ≡ 2 + length (entriesOf fs) + length (nameTo name [])
-  pub fits : n ≤ 1022
+  pub fits : n ≤ partialLimit
   pub is : slice mark (mark + n) s ≡ mapLetter ∷ comma ∷ (entriesOf fs ++ nameTo name [])
 
 pub record NameOver (n : ℕ) (name : Bytes) (fs : Fields) : Type 0 where
@@ -114,7 +115,7 @@ KeptNameAt s mark n name none = n ≡ 0
 KeptNameAt s mark n name (some fs) = NameKept s mark n name fs ⊎ NameOver n name fs
 
 pub record MapPairAt (s : Bytes) (mark : ℕ) (f : Frame) (name : Bytes) (t u : Ty) (fs gs : Fields) (k : Option Fields) : Type 0 where
-  pub kind : f .kind ≡ 7
+  pub kind : f .kind ≡ mapsArm
   pub pair : PairAt s mark f t u
   pub at : f .at ≡ mark + f .n
   pub kept : KeptNameAt s mark (f .n) name k
@@ -123,8 +124,8 @@ pub record MapPairAt (s : Bytes) (mark : ℕ) (f : Frame) (name : Bytes) (t u : 
   pub rooms : (x y : Ty) → Value x fs → Value y gs → Room s mark x y
 
 pub record MapDoneAt (s : Bytes) (mark : ℕ) (f : Frame) (k : Option Fields) : Type 0 where
-  pub kind : f .kind ≡ 7
-  pub go : f .go ≡ 2
+  pub kind : f .kind ≡ mapsArm
+  pub go : f .go ≡ nothingLeft
   pub kept : KeptAt s mark (f .n) k
 
 -- a type that may be a member: regular, not too large, no union
@@ -135,7 +136,7 @@ pub record Plain (t : Ty) : Type 0 where
 
 -- the types of a union that is being made: variants at [i, ie), outer types from p to pe, members so far at the mark
 pub record UnionAt (s : Bytes) (mark : ℕ) (f : Frame) (outers all ms : List Ty) : Type 0 where
-  pub kind : f .kind ≡ 10
+  pub kind : f .kind ≡ unionsArm
   pub outers-at : TypesAt s (f .p) (f .pe) outers
   pub outers-below : f .pe ≤ mark
   pub all-at : TypesAt s (f .i) (f .ie) all
@@ -149,7 +150,7 @@ pub record UnionAt (s : Bytes) (mark : ℕ) (f : Frame) (outers all ms : List Ty
   pub ms-plain : All Plain ms
   pub ascend : ascending (map line ms) ≡ true
   pub rooms : (x y : Ty) → List·Memᴰ x all → List·Memᴰ y outers → Room s mark x y
-  pub two-slots : mark + 2048 ≤ length s
+  pub two-slots : mark + twoSlots ≤ length s
 
 pub record UnionPairAt (s : Bytes) (mark : ℕ) (f : Frame) (v o : Ty) (vs os all ms : List Ty) (has-met : Bool) : Type 0 where
   pub union : UnionAt s mark f (o ∷ os) all ms
@@ -161,22 +162,22 @@ pub record UnionPairAt (s : Bytes) (mark : ℕ) (f : Frame) (v o : Ty) (vs os al
   pub met : f .met ≡ has-met
 
 pub record UnionSkipAt (s : Bytes) (mark : ℕ) (f : Frame) (o : Ty) (os all ms : List Ty) : Type 0 where
-  pub go : f .go ≡ 1
+  pub go : f .go ≡ outerAlone
   pub union : UnionAt s mark f (o ∷ os) all ms
   pub met : f .met ≡ false
 
 pub record UnionDoneAt (s : Bytes) (mark : ℕ) (f : Frame) (ms : List Ty) : Type 0 where
-  pub kind : f .kind ≡ 10
-  pub go : f .go ≡ 2
+  pub kind : f .kind ≡ unionsArm
+  pub go : f .go ≡ nothingLeft
   pub members-at : TypesAt s mark (mark + f .n) ms
   pub members-fit : f .n ≤ typeLimit
-  pub room : mark + 2048 ≤ length s
+  pub room : mark + twoSlots ≤ length s
 
 -- stopped: apart with the two types, or too large
 abbrev pub StoppedAt : Bytes → ℕ → Frame → Run → Type 0
 StoppedAt s mark f (done t) = ⊥
-StoppedAt s mark f (mismatch x y) = (f .go ≡ 3) × Operand s (f .v) (f .ve) (length s) x × Operand s (f .w) (f .we) (length s) y
-StoppedAt s mark f large = f .go ≡ 4
+StoppedAt s mark f (mismatch x y) = (f .go ≡ notUnified) × Operand s (f .v) (f .ve) (length s) x × Operand s (f .w) (f .we) (length s) y
+StoppedAt s mark f large = f .go ≡ overLarge
 
 abbrev pub FrameAt : Bytes → ℕ → Frame → Left → Type 0
 FrameAt s mark f (listPair t u) = ListPairAt s mark f t u

@@ -3,6 +3,7 @@ use Prim.Native.Nat.{ℕ}
 use mathlib.Core.Bool.{Bool, cond, _&&_}
 use lib.Dec.{eqb, leb}
 use Rattle.semantics.specs.Codes.{nullLetter, intLetter, numLetter, listLetter, mapLetter, nodeLetter, relationshipLetter, unionLetter}
+use Rattle.unify.specs.Codes.{nullLeftArm, nullRightArm, numbersArm, listsArm, mapsArm, nodesArm, relationshipsArm, unionsArm, unionLeftArm, unionRightArm, apartArm}
 
 -- Int, Float, Num
 unfoldable pub numeric : ℕ → Bool
@@ -10,11 +11,11 @@ numeric k = leb intLetter k && leb k numLetter
 
 -- two types of one kind
 unfoldable pub armOfKind : ℕ → ℕ
-armOfKind k = cond (eqb k listLetter) 6 (cond (eqb k mapLetter) 7 (cond (eqb k nodeLetter) 8 (cond (eqb k relationshipLetter) 9 (cond (eqb k unionLetter) 10 13))))
+armOfKind k = cond (eqb k listLetter) listsArm (cond (eqb k mapLetter) mapsArm (cond (eqb k nodeLetter) nodesArm (cond (eqb k relationshipLetter) relationshipsArm (cond (eqb k unionLetter) unionsArm apartArm))))
 
 -- of different kinds
 unfoldable pub armOfKinds : ℕ → ℕ → ℕ
-armOfKinds j k = cond (numeric j && numeric k) 5 (cond (eqb j unionLetter) 11 (cond (eqb k unionLetter) 12 13))
+armOfKinds j k = cond (numeric j && numeric k) numbersArm (cond (eqb j unionLetter) unionLeftArm (cond (eqb k unionLetter) unionRightArm apartArm))
 
 unfoldable pub armOfUnequal : ℕ → ℕ → ℕ
-armOfUnequal j k = cond (eqb j nullLetter) 3 (cond (eqb k nullLetter) 4 (cond (eqb j k) (armOfKind k) (armOfKinds j k)))
+armOfUnequal j k = cond (eqb j nullLetter) nullLeftArm (cond (eqb k nullLetter) nullRightArm (cond (eqb j k) (armOfKind k) (armOfKinds j k)))

@@ -1,3 +1,4 @@
+pub mod Codes
 pub mod Work
 pub mod Arms
 pub mod Frames

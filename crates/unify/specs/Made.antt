@@ -9,6 +9,7 @@ use Rattle.semantics.specs.Ty.{Ty, joined}
 use Rattle.ty.specs.Parts.{TypeAt}
 use Rattle.ty.specs.Union.{TypesAt}
 use Rattle.unify_run.specs.Run.{checked}
+use Rattle.unify.specs.Codes.{pairNext, nothingLeft, notUnified, unionMarks}
 use Rattle.unify.specs.Work.{Answered, Below}
 use Rattle.unify.specs.declared.Frame.{Frame}
 use Rattle.unify.specs.declared.Unified.{Unified}
@@ -19,14 +20,14 @@ goes f g =
 
 abbrev pub apartBy : Frame → ℕ → ℕ → ℕ → ℕ → Frame
 apartBy f a ae b be =
-    record { kind = f .kind; go = 3; v = a; ve = ae; w = b; we = be; at = f .at; n = f .n; p = f .p; pe = f .pe; i = f .i; ie = f .ie; met = f .met }
+    record { kind = f .kind; go = notUnified; v = a; ve = ae; w = b; we = be; at = f .at; n = f .n; p = f .p; pe = f .pe; i = f .i; ie = f .ie; met = f .met }
 
 abbrev pub pairBy : Frame → ℕ → ℕ → ℕ → ℕ → ℕ → Frame
 pairBy f v ve w we at =
-    record { kind = f .kind; go = 0; v = v; ve = ve; w = w; we = we; at = at; n = f .n; p = f .p; pe = f .pe; i = f .i; ie = f .ie; met = f .met }
+    record { kind = f .kind; go = pairNext; v = v; ve = ve; w = w; we = we; at = at; n = f .n; p = f .p; pe = f .pe; i = f .i; ie = f .ie; met = f .met }
 
 abbrev pub emptyFrame : ℕ → Frame
-emptyFrame k = record { kind = k; go = 2; v = 0; ve = 0; w = 0; we = 0; at = 0; n = 0; p = 0; pe = 0; i = 0; ie = 0; met = false }
+emptyFrame k = record { kind = k; go = nothingLeft; v = 0; ve = 0; w = 0; we = 0; at = 0; n = 0; p = 0; pe = 0; i = 0; ie = 0; met = false }
 
 -- a type stands at [mark, end)
 pub record SomeMade (s : Bytes) (mark end : ℕ) : Type 0 where
@@ -40,7 +41,7 @@ Tested s mark end r = (t : Ty) → TypeAt s mark end t → Answered (checked t) 
 pub record SomeUnion (s : Bytes) (mark n : ℕ) : Type 0 where
   pub members : List Ty
   pub at : TypesAt s mark (mark + n) members
-  pub room : mark + n + 4 ≤ length s
+  pub room : mark + n + unionMarks ≤ length s
 
 pub record ClosedUnion (s s′ : Bytes) (mark n : ℕ) (r : Unified) : Type 0 where
   pub below : Below s s′ mark

@@ -8,6 +8,7 @@ use Rattle.semantics.specs.Bytes.{Bytes}
 use Rattle.semantics.specs.Ty.{Ty, Fields, ∅ᶠ, field, nameTo, lineTo, line}
 use Rattle.ty.specs.declared.merging.Merge.{Merge}
 use Rattle.unify_run.specs.Run.{Run, runMaps}
+use Rattle.unify.specs.Codes.{nothingLeft}
 use Rattle.unify.specs.Work.{Below}
 use Rattle.unify.specs.Frames.{judged, Value, Room, EntriesAt, KeptAt, Comes}
 use Rattle.unify.specs.declared.Frame.{Frame}
@@ -62,5 +63,5 @@ pub record Lone (s s′ : Bytes) (m : Merge) (mark : ℕ) (r : Merge) : Type 0 w
 pub record Entered (s s′ : Bytes) (f : Frame) (m : Merge) (mark : ℕ) (r : Frame) : Type 0 where
   pub below : Below s s′ mark
   pub kind : r .kind ≡ f .kind
-  pub past : r .go < 2 → (m .p < r .ve) × (r .ve ≤ mark)
+  pub past : r .go < nothingLeft → (m .p < r .ve) × (r .ve ≤ mark)
   pub frame : (R : Run) → MetFor s m mark R → Comes s′ mark r R

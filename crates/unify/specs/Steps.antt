@@ -11,6 +11,7 @@ use Rattle.semantics.specs.Bytes.{Bytes}
 use Rattle.semantics.specs.Ty.{Ty, Fields}
 use Rattle.ty.specs.Parts.{TypeAt}
 use Rattle.unify_run.specs.Run.{Run}
+use Rattle.unify.specs.Codes.{unionsArm, nothingLeft, twoSlots}
 use Rattle.unify.specs.Work.{Operand, Ready, Answered, Below}
 use Rattle.unify.specs.Arms.{armOf, hasParts}
 use Rattle.unify.specs.Frames.{judged, Left, listPair, mapPair, unionPair, unionSkip, listDone, mapDone, unionDone, left, FrameAt, Comes}
@@ -43,7 +44,7 @@ pub record FlatAnswer (s s′ : Bytes) (arm a ae b be mark : ℕ) (r : Unified) 
 
 -- what falls from pair to pair
 unfoldable pub measure : ℕ → Frame → ℕ
-measure mark f = cond (eqb (f .kind) 10) ((f .pe - f .p) * 2048 + (f .ie - f .ve)) (mark - f .ve)
+measure mark f = cond (eqb (f .kind) unionsArm) ((f .pe - f .p) * twoSlots + (f .ie - f .ve)) (mark - f .ve)
 
 -- the frame of the two operands, whichever they are
 pub record Started (s s′ : Bytes) (arm a ae b be mark : ℕ) (r : Frame) : Type 0 where
@@ -72,7 +73,7 @@ pub record SomePair (s : Bytes) (mark : ℕ) (f : Frame) (u : Unified) : Type 0 
 pub record Stepped (s s′ : Bytes) (mark : ℕ) (f : Frame) (u : Unified) (r : Frame) : Type 0 where
   pub below : Below s s′ mark
   pub frame : (L : Left) (t w : Ty) → Pair L t w → AnsweredPair s mark f u L t w → Comes s′ mark r (left judged L)
-  pub falls : r .go < 2 → measure mark r < measure mark f
+  pub falls : r .go < nothingLeft → measure mark r < measure mark f
 
 -- an outer type that meets no variant
 pub record SomeSkip (s : Bytes) (mark : ℕ) (f : Frame) : Type 0 where
@@ -85,15 +86,15 @@ pub record SomeSkip (s : Bytes) (mark : ℕ) (f : Frame) : Type 0 where
 pub record Skipped (s s′ : Bytes) (mark : ℕ) (f r : Frame) : Type 0 where
   pub below : Below s s′ mark
   pub frame : (o : Ty) (os all ms : List Ty) → FrameAt s mark f (unionSkip o os all ms) → Comes s′ mark r (left judged (unionSkip o os all ms))
-  pub falls : r .go < 2 → measure mark r < measure mark f
+  pub falls : r .go < nothingLeft → measure mark r < measure mark f
 
 -- a frame that has no pair left
 pub record SomeEnd (s : Bytes) (mark : ℕ) (f : Frame) : Type 0 where
   pub left-of : Left
   pub stands : FrameAt s mark f left-of
-  pub over : 2 ≤ f .go
+  pub over : nothingLeft ≤ f .go
   pub room : mark + typeLimit ≤ length s
 
 pub record Finished (s s′ : Bytes) (mark : ℕ) (f : Frame) (r : Unified) : Type 0 where
   pub below : Below s s′ mark
-  pub answer : (L : Left) → FrameAt s mark f L → 2 ≤ f .go → Answered (left judged L) s′ mark r
+  pub answer : (L : Left) → FrameAt s mark f L → nothingLeft ≤ f .go → Answered (left judged L) s′ mark r

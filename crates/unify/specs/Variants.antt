@@ -11,6 +11,7 @@ use Rattle.ty.specs.Union.{TypesAt}
 use Rattle.ty.specs.declared.Grown.{Grown}
 use Rattle.ty.specs.declared.Grown.the-variants.{Len, TooLarge}
 use Rattle.unify_run.specs.Run.{large, given, add, widen, runVariants, runMembers}
+use Rattle.unify.specs.Codes.{unionsArm, unionLeftArm, unionRightArm, nothingLeft, twoSlots}
 use Rattle.unify.specs.Work.{Operand, Below}
 use Rattle.unify.specs.Frames.{judged, UnionAt, Comes}
 use Rattle.unify.specs.Steps.{measure}
@@ -20,9 +21,9 @@ use Rattle.unify.specs.declared.unions.Pairing.{Pairing}
 -- ## Who meets whom
 
 pub record Sides (arm a ae b be : ℕ) (r : Pairing) : Type 0 where
-  pub both : arm ≡ 10 → r ≡ record { o = a + 2; oe = ae - 2; i = b + 2; ie = be - 2 }
-  pub first : arm ≡ 11 → r ≡ record { o = b; oe = be; i = a + 2; ie = ae - 2 }
-  pub second : arm ≡ 12 → r ≡ record { o = a; oe = ae; i = b + 2; ie = be - 2 }
+  pub both : arm ≡ unionsArm → r ≡ record { o = a + 2; oe = ae - 2; i = b + 2; ie = be - 2 }
+  pub first : arm ≡ unionLeftArm → r ≡ record { o = b; oe = be; i = a + 2; ie = ae - 2 }
+  pub second : arm ≡ unionRightArm → r ≡ record { o = a; oe = ae; i = b + 2; ie = be - 2 }
 
 -- ## Types join the running union
 
@@ -43,7 +44,7 @@ pub record Joining (s : Bytes) (from to mark n : ℕ) : Type 0 where
   pub types : List Ty
   pub running : RunningAt s mark n members
   pub new : FewAt s from to mark types
-  pub room : mark + 2048 ≤ length s
+  pub room : mark + twoSlots ≤ length s
 
 -- these members, if they fit
 abbrev pub Grows : Bytes → ℕ → Option (List Ty) → Grown → Type 0
@@ -77,7 +78,7 @@ pub record SomeOuters (s : Bytes) (mark : ℕ) (f : Frame) : Type 0 where
 -- the frame at its next outer type; it may have the first variant before it again
 pub record NextOuter (s : Bytes) (mark : ℕ) (f r : Frame) : Type 0 where
   pub frame : (os all ms : List Ty) → UnionAt s mark f os all ms → Comes s mark r (runMembers judged all os ms)
-  pub falls : r .go < 2 → measure mark r ≤ (f .pe - f .p) * 2048 + (f .ie - f .ve) + typeLimit
+  pub falls : r .go < nothingLeft → measure mark r ≤ (f .pe - f .p) * twoSlots + (f .ie - f .ve) + typeLimit
 
 -- an outer type is there
 pub record SomeOuter (s : Bytes) (mark : ℕ) (f : Frame) : Type 0 where
@@ -92,7 +93,7 @@ pub record ClosedOuter (s s′ : Bytes) (mark : ℕ) (f r : Frame) : Type 0 wher
   pub below : Below s s′ mark
   pub frame : (o : Ty) (os all ms : List Ty) → UnionAt s mark f (o ∷ os) all ms
       → Comes s′ mark r (given (runVariants judged all o [] (f .met) ms) large (λ l. runMembers judged all os l))
-  pub falls : r .go < 2 → measure mark r < measure mark f
+  pub falls : r .go < nothingLeft → measure mark r < measure mark f
 
 -- an outer type, and the variants vs that it is still to meet
 pub record VariantsAt (s : Bytes) (mark : ℕ) (f : Frame) (o : Ty) (vs os all ms : List Ty) : Type 0 where
@@ -114,4 +115,4 @@ pub record NextVariant (s s′ : Bytes) (mark : ℕ) (f r : Frame) : Type 0 wher
   pub below : Below s s′ mark
   pub frame : (o : Ty) (vs os all ms : List Ty) → VariantsAt s mark f o vs os all ms
       → Comes s′ mark r (given (runVariants judged all o vs (f .met) ms) large (λ l. runMembers judged all os l))
-  pub falls : r .go < 2 → measure mark r < measure mark f
+  pub falls : r .go < nothingLeft → measure mark r < measure mark f

@@ -19,7 +19,7 @@ pub record Operand (s : Bytes) (a e mark : ℕ) (t : Ty) : Type 0 where
   pub regular : regular t ≡ true
   pub small : tooLarge t ≡ false
 
--- slots of 1,024 bytes that unification may write from its mark on: the potential falls by three with each list, map or union frame
+-- slots, each what a type takes, that unification may write from its mark on: the potential falls by three with each list, map or union frame
 unfoldable pub slots : Ty → Ty → ℕ
 slots t u = (2 * (nesting t + nesting u) + cond (union? t || union? u) 1 0 - 1) / 3
 

@@ -1,6 +1,7 @@
 // Unification: the parts of two lists, maps or unions are unified one pair after the other.
 ghost use mathlib.Core.Path.{_≡_};
 ghost use mathlib.Core.Bool.{true};
+ghost use Rattle.unify.specs.Codes.{nothingLeft};
 ghost use Rattle.unify.specs.Arms.{hasParts};
 ghost use Rattle.unify.specs.Work.{Ready, Unifies};
 ghost use Rattle.unify.specs.Steps.{ArmReady, Started, SomePair, Stepped, SomeEnd, Finished};
@@ -52,7 +53,7 @@ fn step(work: &mut [u8], f: Frame, u: Unified, mark: usize) -> Frame
 
 // Nothing is left: what was made is the answer.
 fn finish_done(work: &mut [u8], f: Frame, mark: usize) -> Unified
-    requires { ⌜ SomeEnd (now work) mark f × (f .go ≡ 2) ⌝ }
+    requires { ⌜ SomeEnd (now work) mark f × (f .go ≡ nothingLeft) ⌝ }
     ensures { λ r. ⌜ Finished (now (work .entry)) (now (work .exit)) mark f r ⌝ }
 {
     let kind = f.kind;

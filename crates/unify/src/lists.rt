@@ -1,5 +1,6 @@
 // Frames of lists: one pair, the elements.
 ghost use mathlib.Core.Path.{_≡_};
+ghost use Rattle.unify.specs.Codes.{listsArm, nothingLeft};
 ghost use Rattle.unify.specs.Steps.{ArmReady, Started, SomePair, Stepped, SomeEnd, Finished};
 use crate::Frame;
 use crate::LARGE;
@@ -22,7 +23,7 @@ pub fn start_list(
     be: usize,
     mark: usize,
 ) -> Frame
-    requires { ⌜ ArmReady (now work) arm a ae b be mark × (arm ≡ 6) ⌝ }
+    requires { ⌜ ArmReady (now work) arm a ae b be mark × (arm ≡ listsArm) ⌝ }
     ensures { λ r. ⌜ Started (now (work .entry)) (now (work .exit)) arm a ae b be mark r ⌝ }
 {
     text::copy_in(work, a, mark, 2);
@@ -33,7 +34,7 @@ pub fn start_list(
 
 // Behind the answer of the pair.
 pub fn step_list(work: &mut [u8], f: Frame, u: Unified, mark: usize) -> Frame
-    requires { ⌜ SomePair (now work) mark f u × (f .kind ≡ 6) ⌝ }
+    requires { ⌜ SomePair (now work) mark f u × (f .kind ≡ listsArm) ⌝ }
     ensures { λ r. ⌜ Stepped (now (work .entry)) (now (work .exit)) mark f u r ⌝ }
 {
     match u {
@@ -49,7 +50,7 @@ pub fn step_list(work: &mut [u8], f: Frame, u: Unified, mark: usize) -> Frame
 
 // The list as the answer.
 pub fn finish_list(work: &mut [u8], f: Frame, mark: usize) -> Unified
-    requires { ⌜ SomeEnd (now work) mark f × (f .kind ≡ 6) × (f .go ≡ 2) ⌝ }
+    requires { ⌜ SomeEnd (now work) mark f × (f .kind ≡ listsArm) × (f .go ≡ nothingLeft) ⌝ }
     ensures { λ r. ⌜ Finished (now (work .entry)) (now (work .exit)) mark f r ⌝ }
 {
     let n = f.n;

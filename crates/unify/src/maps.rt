@@ -1,5 +1,6 @@
 // Frames of maps: the entries of both in the order of their names, common names unified.
 ghost use mathlib.Core.Path.{_≡_};
+ghost use Rattle.unify.specs.Codes.{mapsArm, nothingLeft};
 ghost use Rattle.unify.specs.Merges.{SomeEntry, EntryLong, SomeMerge, Lone, SomeMet, Entered};
 ghost use Rattle.unify.specs.Steps.{ArmReady, Started, SomePair, Stepped, SomeEnd, Finished};
 ghost use Rattle.unify.specs.declared.Unified.the-variants.{Done};
@@ -42,7 +43,7 @@ fn keep_lone(s: &mut [u8], start: Merge, to: usize) -> Merge
 
 // To the next common name, which is kept, and its two values; or to the end.
 fn next_entry(work: &mut [u8], f: Frame, m: Merge, mark: usize) -> Frame
-    requires { ⌜ SomeMet (now work) m mark × (f .kind ≡ 7) ⌝ }
+    requires { ⌜ SomeMet (now work) m mark × (f .kind ≡ mapsArm) ⌝ }
     ensures { λ r. ⌜ Entered (now (work .entry)) (now (work .exit)) f m mark r ⌝ }
 {
     let p = m.p;
@@ -72,7 +73,7 @@ pub fn start_map(
     be: usize,
     mark: usize,
 ) -> Frame
-    requires { ⌜ ArmReady (now work) arm a ae b be mark × (arm ≡ 7) ⌝ }
+    requires { ⌜ ArmReady (now work) arm a ae b be mark × (arm ≡ mapsArm) ⌝ }
     ensures { λ r. ⌜ Started (now (work .entry)) (now (work .exit)) arm a ae b be mark r ⌝ }
 {
     text::copy_in(work, a, mark, 2);
@@ -87,7 +88,7 @@ pub fn start_map(
 
 // Behind the answer [f.at..end), which is kept if there is room.
 fn after_value(work: &mut [u8], f: Frame, end: usize, mark: usize) -> Frame
-    requires { ⌜ SomePair (now work) mark f (Done end) × (f .kind ≡ 7) ⌝ }
+    requires { ⌜ SomePair (now work) mark f (Done end) × (f .kind ≡ mapsArm) ⌝ }
     ensures { λ r. ⌜ Stepped (now (work .entry)) (now (work .exit)) mark f (Done end) r ⌝ }
 {
     let n = ty::kept(f.n, end - f.at);
@@ -102,7 +103,7 @@ fn after_value(work: &mut [u8], f: Frame, end: usize, mark: usize) -> Frame
 
 // Behind the answer of the pair.
 pub fn step_map(work: &mut [u8], f: Frame, u: Unified, mark: usize) -> Frame
-    requires { ⌜ SomePair (now work) mark f u × (f .kind ≡ 7) ⌝ }
+    requires { ⌜ SomePair (now work) mark f u × (f .kind ≡ mapsArm) ⌝ }
     ensures { λ r. ⌜ Stepped (now (work .entry)) (now (work .exit)) mark f u r ⌝ }
 {
     match u {
@@ -114,7 +115,7 @@ pub fn step_map(work: &mut [u8], f: Frame, u: Unified, mark: usize) -> Frame
 
 // The map as the answer.
 pub fn finish_map(work: &mut [u8], f: Frame, mark: usize) -> Unified
-    requires { ⌜ SomeEnd (now work) mark f × (f .kind ≡ 7) × (f .go ≡ 2) ⌝ }
+    requires { ⌜ SomeEnd (now work) mark f × (f .kind ≡ mapsArm) × (f .go ≡ nothingLeft) ⌝ }
     ensures { λ r. ⌜ Finished (now (work .entry)) (now (work .exit)) mark f r ⌝ }
 {
     match ty::close_line(work, mark, f.n) {

@@ -2,6 +2,7 @@
 ghost use mathlib.Core.Path.{_≡_};
 ghost use Prim.Native.Nat.{_+_, _≤_};
 ghost use lib.ListN.{length};
+ghost use Rattle.unify.specs.Codes.{unionsArm, unionRightArm, nothingLeft};
 ghost use Rattle.unify.specs.Variants.{Sides, Joining, Joined, Widening, Widened, SomeOuters, NextOuter, SomeOuter, ClosedOuter, SomeVariants, NextVariant};
 ghost use Rattle.unify.specs.Steps.{ArmReady, Started, SomePair, Stepped, SomeSkip, Skipped, SomeEnd, Finished};
 use crate::Frame;
@@ -28,7 +29,7 @@ pub struct Pairing {
 
 // Who meets whom: the outer types are the first operand's, or the one that is no union.
 pub fn sides(arm: u8, a: usize, ae: usize, b: usize, be: usize) -> Pairing
-    requires { ⌜ (a + 2 ≤ ae) × (b + 2 ≤ be) × (10 ≤ arm) × (arm ≤ 12) ⌝ }
+    requires { ⌜ (a + 2 ≤ ae) × (b + 2 ≤ be) × (unionsArm ≤ arm) × (arm ≤ unionRightArm) ⌝ }
     ensures { λ r. ⌜ Sides arm a ae b be r ⌝ }
 {
     match arm {
@@ -111,7 +112,7 @@ pub fn start_union(
     be: usize,
     mark: usize,
 ) -> Frame
-    requires { ⌜ ArmReady (now work) arm a ae b be mark × (10 ≤ arm) × (arm ≤ 12) ⌝ }
+    requires { ⌜ ArmReady (now work) arm a ae b be mark × (unionsArm ≤ arm) × (arm ≤ unionRightArm) ⌝ }
     ensures { λ r. ⌜ Started (now (work .entry)) (now (work .exit)) arm a ae b be mark r ⌝ }
 {
     let s = sides(arm, a, ae, b, be);
@@ -158,7 +159,7 @@ fn next_variant(work: &mut [u8], f: Frame, mark: usize) -> Frame
 }
 
 fn join_answer(work: &mut [u8], f: Frame, end: usize, mark: usize) -> Frame
-    requires { ⌜ SomePair (now work) mark f (Unified.Done end) × (f .kind ≡ 10) ⌝ }
+    requires { ⌜ SomePair (now work) mark f (Unified.Done end) × (f .kind ≡ unionsArm) ⌝ }
     ensures { λ r. ⌜ Stepped (now (work .entry)) (now (work .exit)) mark f (Unified.Done end) r ⌝ }
 {
     let n = f.n;
@@ -175,7 +176,7 @@ fn join_answer(work: &mut [u8], f: Frame, end: usize, mark: usize) -> Frame
 
 // Behind the answer of the pair.
 pub fn step_union(work: &mut [u8], f: Frame, u: Unified, mark: usize) -> Frame
-    requires { ⌜ SomePair (now work) mark f u × (f .kind ≡ 10) ⌝ }
+    requires { ⌜ SomePair (now work) mark f u × (f .kind ≡ unionsArm) ⌝ }
     ensures { λ r. ⌜ Stepped (now (work .entry)) (now (work .exit)) mark f u r ⌝ }
 {
     match u {
@@ -200,7 +201,7 @@ pub fn skip_outer(work: &mut [u8], f: Frame, mark: usize) -> Frame
 
 // The running union as the answer.
 pub fn finish_union(work: &mut [u8], f: Frame, mark: usize) -> Unified
-    requires { ⌜ SomeEnd (now work) mark f × (f .kind ≡ 10) × (f .go ≡ 2) ⌝ }
+    requires { ⌜ SomeEnd (now work) mark f × (f .kind ≡ unionsArm) × (f .go ≡ nothingLeft) ⌝ }
     ensures { λ r. ⌜ Finished (now (work .entry)) (now (work .exit)) mark f r ⌝ }
 {
     closed(work, mark, f.n)
