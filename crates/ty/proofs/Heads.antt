@@ -193,18 +193,18 @@ module _ (s : Bytes) (q n : ℕ) (x : Head) (o : q < n) where
   told-letter l m w =
       let g = ltb-true (getD s q 0) (x .letter) l in
       ahead-below s q n m (λ t rest y e a.
-          let k = two-at s n m y a in
-          let i = a .inside in
-          ahead-here s q n m (omega arith) i (omega arith) (omega (arith, ap (λ (h : Head). h .letter) w, before-in s n m (omega arith))))
+      let k = two-at s n m y a in
+      let i = a .inside in
+      ahead-here s q n m (omega arith) i (omega arith) (omega (arith, ap (λ (h : Head). h .letter) w, before-in s n m (omega arith))))
 
   module _ (l : getD s q 0 ≡ x .letter) (m : ℕ) (w : x ≡ headOf s n m) where
     -- behind the first two bytes
     after-two : n + 2 < m → (m ≤ length s → Ahead s (q + 2) (n + 2) m) → Below s q n m
     after-two g v =
         ahead-below s q n m (λ t rest y e a.
-            let i = a .inside in
-            ahead-next s q n m (omega arith) i (omega arith) (q + 1) (n + 1) (omega arith) (omega arith) (before-same s n m (getD s q 0) (omega arith) (l ∙ ap (λ (h : Head). h .letter) w))
-            (ahead-next s (q + 1) (n + 1) m (omega arith) i (omega arith) (q + 2) (n + 2) (omega arith) (omega arith) (comma-second s q t rest e ∙ sym (comma-second-at s n m y a)) (v i)))
+        let i = a .inside in
+        ahead-next s q n m (omega arith) i (omega arith) (q + 1) (n + 1) (omega arith) (omega arith) (before-same s n m (getD s q 0) (omega arith) (l ∙ ap (λ (h : Head). h .letter) w))
+        (ahead-next s (q + 1) (n + 1) m (omega arith) i (omega arith) (q + 2) (n + 2) (omega arith) (omega arith) (comma-second s q t rest e ∙ sym (comma-second-at s n m y a)) (v i)))
 
     -- by the third
     pub told-third : ltb (getD s (q + 2) 0) (x .third) ≡ true → Below s q n m
