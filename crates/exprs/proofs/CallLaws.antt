@@ -18,7 +18,7 @@ use Rattle.builtins.specs.Rows.{shapeOf, returnOf, builtinOf, rowOf, AcceptsKin
 use Rattle.builtins.proofs.Laws.{number-of-row}
 use Rattle.walk_run.specs.Run.{told, argsOf}
 use Rattle.exprs.specs.State.{place}
-use Rattle.exprs.specs.declared.state.St.{St}
+use Rattle.exprs.specs.declared.state.Accumulator.{Accumulator}
 use Rattle.report.specs.Report.{Adds}
 use Rattle.report.specs.declared.Tally.{Tally}
 use Rattle.report.proofs.ReportLaws.{adds-none}
@@ -85,11 +85,11 @@ module _ {row : ℕ} (x : Option Builtin) (e : row ≡ rowOf x) (d : row ≡ 7 �
 
 -- ## The end
 
-pub arg-first : {s : Bytes} {st : St} (a : Option Ty) → KeptAt (argKept a) s st → FirstAt s (st .len) (argsOf (argKept a))
+pub arg-first : {s : Bytes} {st : Accumulator} (a : Option Ty) → KeptAt (argKept a) s st → FirstAt s (st .len) (argsOf (argKept a))
 arg-first none k = unfold place in k .state .len
 arg-first (some t) k = kept-at k
 
-pub arg-some : {s : Bytes} {st : St} → SomeArg s st → SomeFirst s (st .len)
+pub arg-some : {s : Bytes} {st : Accumulator} → SomeArg s st → SomeFirst s (st .len)
 arg-some {s} {st} p =
     let f = arg-first (p .arg) (p .at) in
     record { types = argsOf (argKept (p .arg)); first = f; room = omega (arith, p .at .wide); within = go (argsOf (argKept (p .arg))) f }

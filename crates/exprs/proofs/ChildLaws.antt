@@ -19,13 +19,13 @@ use Rattle.unify_run.specs.Run.{given, long, fitting, add}
 use Rattle.walk_run.specs.Run.{Kept, empty, over, kept, both, items, last, entries, arms, keepEntry, keepArm, keepAnswer}
 use Rattle.exprs.specs.State.{textOf, place, behind, full, StAs, ChildAt, ArmForm, Keeps, SomeEntry, EntryKept, SomeArm, ArmKept}
 use Rattle.exprs.specs.Rules.{roleNo, AnswerKept}
-use Rattle.exprs.specs.declared.state.St.{St}
+use Rattle.exprs.specs.declared.state.Accumulator.{Accumulator}
 use Rattle.exprs.specs.declared.state.Keep.the-variants.{On, Large}
 use Rattle.exprs.proofs.StateLaws.{Is}
 
 -- ## `map_value`
 
-entry-front : {fs : Fields} {t : Ty} {s : Bytes} {st : St} {n : ℕ} → ChildAt (entries fs) t s st n → TypeAt s 0 (st .len) (tMap fs)
+entry-front : {fs : Fields} {t : Ty} {s : Bytes} {st : Accumulator} {n : ℕ} → ChildAt (entries fs) t s st n → TypeAt s 0 (st .len) (tMap fs)
 unfolding textOf place
 entry-front {s = s} {st = st} c =
     record {
@@ -34,7 +34,7 @@ entry-front {s = s} {st = st} c =
       is = ap (λ (m : ℕ). take m s) (c .state .len) ∙ c .state .front;
     }
 
-pub entry-in : {s : Bytes} {st : St} {n : ℕ} {x : Bytes} → SomeEntry s st n x → Entering s (st .len) (st .len + n) x
+pub entry-in : {s : Bytes} {st : Accumulator} {n : ℕ} {x : Bytes} → SomeEntry s st n x → Entering s (st .len) (st .len + n) x
 entry-in p =
     record {
       map = record { fields = p .before; name = p .name; front = record { at = entry-front (p .at); spelt = p .spelt } };
@@ -45,8 +45,8 @@ entry-in p =
 len-differs : {n : ℕ} → Len n ≡ TooLarge → ⊥
 len-differs e = let z : _≡_ {A = ℕ} 0 1 = cc in omega arith
 
-module _ {s s′ x : Bytes} {st : St} {n : ℕ} {g : Grown} (h : Entered s s′ (st .len) (st .len + n) x g) where
-  pub entry-on : {m : ℕ} {q : St} → g ≡ Len m → Is q m 0 → EntryKept s s′ st n x (On q)
+module _ {s s′ x : Bytes} {st : Accumulator} {n : ℕ} {g : Grown} (h : Entered s s′ (st .len) (st .len + n) x g) where
+  pub entry-on : {m : ℕ} {q : Accumulator} → g ≡ Len m → Is q m 0 → EntryKept s s′ st n x (On q)
   unfolding keepEntry textOf place behind full
   entry-on {m} {q} e i fs t y c z = let d = h fs y t (record { at = entry-front c; spelt = z }) (c .child) in go d (tooLarge (tMap (setField y t fs))) refl (d .answer)
     where
@@ -81,7 +81,7 @@ pub long-overlong : (ms : List Ty) → long (joined ms) ≡ overlong ms
 unfolding long overlong
 long-overlong ms = refl
 
-arm-front : {ms : List Ty} {t : Ty} {s : Bytes} {st : St} {n : ℕ} → ChildAt (arms ms) t s st n → TypesAt s 0 (st .len) ms
+arm-front : {ms : List Ty} {t : Ty} {s : Bytes} {st : Accumulator} {n : ℕ} → ChildAt (arms ms) t s st n → TypesAt s 0 (st .len) ms
 unfolding textOf place
 arm-front {s = s} {st = st} c =
     record {
@@ -91,7 +91,7 @@ arm-front {s = s} {st = st} c =
     }
 
 -- once too large, it stays so
-pub arm-over : {s : Bytes} {st : St} {n : ℕ} → st .over ≡ 1 → ArmKept s s st n st
+pub arm-over : {s : Bytes} {st : Accumulator} {n : ℕ} → st .over ≡ 1 → ArmKept s s st n st
 unfolding keepArm full
 arm-over {s} {st} {n} e = record { long = refl; kept = go }
   where
@@ -105,7 +105,7 @@ arm-over {s} {st} {n} e = record { long = refl; kept = go }
     go (entries fs) t f c = absurd f
     go (arms ms) t f c = absurd (omega (arith, c .state .over))
 
-module _ {s : Bytes} {st : St} {n : ℕ} (open′ : st .over ≡ 1 → ⊥) where
+module _ {s : Bytes} {st : Accumulator} {n : ℕ} (open′ : st .over ≡ 1 → ⊥) where
   pub arm-in : SomeArm s st n → Placing s (st .len) (st .len + n)
   unfolding full
   arm-in p = go (p .before) (p .form) (p .at)
@@ -124,7 +124,7 @@ module _ {s : Bytes} {st : St} {n : ℕ} (open′ : st .over ≡ 1 → ⊥) wher
     arm-long : length s′ ≡ length s
     arm-long = let q = arm-in p in h (q .members) (q .new .ty) (q .front) (q .new .at) .long
 
-    arm-with : (q : St) → ((us : List Ty) → Grew s s′ (st .len + n) us g → StAs (given (fitting us) over arms) s′ q) → ArmKept s s′ st n q
+    arm-with : (q : Accumulator) → ((us : List Ty) → Grew s s′ (st .len + n) us g → StAs (given (fitting us) over arms) s′ q) → ArmKept s s′ st n q
     unfolding keepArm add full
     arm-with q each = record { long = arm-long; kept = go }
       where
@@ -138,7 +138,7 @@ module _ {s : Bytes} {st : St} {n : ℕ} (open′ : st .over ≡ 1 → ⊥) wher
         go (entries fs) t f c = absurd f
         go (arms ms) t f c = each (inserts (opened t) ms) (h ms t (arm-front c) (c .child))
 
-    pub arm-on : {m : ℕ} {q : St} → g ≡ Len m → Is q m 0 → ArmKept s s′ st n q
+    pub arm-on : {m : ℕ} {q : Accumulator} → g ≡ Len m → Is q m 0 → ArmKept s s′ st n q
     unfolding fitting textOf place behind full
     arm-on {m} {q} e i = arm-with q (λ us d. each us d (overlong us) refl (d .answer))
       where
@@ -149,7 +149,7 @@ module _ {s : Bytes} {st : St} {n : ℕ} (open′ : st .over ≡ 1 → ⊥) wher
             rw (long-overlong us ∙ p)
             (record { len = i .0 ∙ l; second = i .1; over = i .2; front = d .front .is })
 
-    pub arm-large : {q : St} → g ≡ TooLarge → q ≡ record { len = 0; second = 0; over = 1 } → ArmKept s s′ st n q
+    pub arm-large : {q : Accumulator} → g ≡ TooLarge → q ≡ record { len = 0; second = 0; over = 1 } → ArmKept s s′ st n q
     unfolding fitting textOf place behind full
     arm-large {q} e i = arm-with q (λ us d. each us d (overlong us) refl (d .answer))
       where
@@ -159,7 +159,7 @@ module _ {s : Bytes} {st : St} {n : ℕ} (open′ : st .over ≡ 1 → ⊥) wher
 
 -- ## An answer of a CASE
 
-pub answer-kept : {i : ℕ} {s s′ : Bytes} {st r : St} {n : ℕ} → i ≡ 2 → ArmKept s s′ st n r → AnswerKept i s s′ st n r
+pub answer-kept : {i : ℕ} {s s′ : Bytes} {st r : Accumulator} {n : ℕ} → i ≡ 2 → ArmKept s s′ st n r → AnswerKept i s s′ st n r
 unfolding roleNo
 answer-kept {i} {s} {s′} {st} {r} {n} e a = record { long = a .long; kept = go }
   where
@@ -169,7 +169,7 @@ answer-kept {i} {s} {s′} {st} {r} {n} e a = record { long = a .long; kept = go
     go answer k t z f c = a .kept k t f c
     go (inner q) k t z f c = absurd (omega arith)
 
-pub answer-other : {i : ℕ} {s : Bytes} {st : St} {n : ℕ} → (i ≡ 2 → ⊥) → AnswerKept i s s st n st
+pub answer-other : {i : ℕ} {s : Bytes} {st : Accumulator} {n : ℕ} → (i ≡ 2 → ⊥) → AnswerKept i s s st n st
 unfolding roleNo
 answer-other {i} {s} {st} {n} e = record { long = refl; kept = go }
   where

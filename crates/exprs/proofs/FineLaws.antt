@@ -21,7 +21,7 @@ use Rattle.unify_run.proofs.Answers.{FineRun, unify-fine}
 use Rattle.walk_run.specs.Run.{Kept, over, kept, both, items, last, entries, arms, start, meetItem, keepFirst, keepTwo, keepItem, keepEntry, keepArm, child}
 use Rattle.walk_run.specs.Run.{empty as nothing}
 use Rattle.exprs.specs.State.{textOf, place, behind, full, StAs, Fine, FineKept, ChildAt, LastChild}
-use Rattle.exprs.specs.declared.state.St.{St}
+use Rattle.exprs.specs.declared.state.Accumulator.{Accumulator}
 use Rattle.exprs.proofs.StateLaws.{list-head}
 use Rattle.exprs.proofs.ChildLaws.{long-overlong}
 
@@ -197,7 +197,7 @@ ends-long (last (some t)) e = absurd e
 ends-long (entries fs) e = refl
 ends-long (arms ms) e = refl
 
-pub child-leaves : (k : Kept) (s ys : Bytes) {st : St} → Ends k → StAs k s st → StAs k (take (st .len) s ++ ys) st
+pub child-leaves : (k : Kept) (s ys : Bytes) {st : Accumulator} → Ends k → StAs k s st → StAs k (take (st .len) s ++ ys) st
 child-leaves k s ys {st} e a =
     let l : st .len ≡ length (textOf k) = a .len ∙ ends-long k e in
     let f : take (st .len) s ≡ textOf k = ap (λ (m : ℕ). take m s) l ∙ a .front in
@@ -209,24 +209,24 @@ child-leaves k s ys {st} e a =
     }
 
 -- of a comprehension `J,` is left
-front-head : (o : Option Ty) (s : Bytes) {st : St} → StAs (last o) s st → take 2 s ≡ 74 ∷ 44 ∷ []
+front-head : (o : Option Ty) (s : Bytes) {st : Accumulator} → StAs (last o) s st → take 2 s ≡ 74 ∷ 44 ∷ []
 unfolding textOf
 front-head none s a = a .front
 front-head (some t) s a = list-head s t (a .front)
 
-last-head : (o : Option Ty) (s ys : Bytes) {st : St} → StAs (last o) s st → take 2 (take (st .len) s ++ ys) ≡ 74 ∷ 44 ∷ []
+last-head : (o : Option Ty) (s ys : Bytes) {st : Accumulator} → StAs (last o) s st → take 2 (take (st .len) s ++ ys) ≡ 74 ∷ 44 ∷ []
 unfolding place
 last-head o s ys {st} a = let f = ap (λ (m : ℕ). take m s) (a .len) ∙ front-head o s a in take-at (take (st .len) s) ys 2 (ap length f) ∙ f
 
-pub last-leaves : (o : Option Ty) (s ys : Bytes) {st : St} → StAs (last o) s st → StAs (last none) (take (st .len) s ++ ys) (record { len = st .len; second = 0; over = st .over })
+pub last-leaves : (o : Option Ty) (s ys : Bytes) {st : Accumulator} → StAs (last o) s st → StAs (last none) (take (st .len) s ++ ys) (record { len = st .len; second = 0; over = st .over })
 unfolding textOf place behind full
 last-leaves o s ys a = record { len = a .len; second = refl; over = a .over; front = last-head o s ys a }
 
-pub last-child : {o : Option Ty} (s ys : Bytes) {st : St} {n : ℕ} {t : Ty} → StAs (last o) s st → TypeAt (take (st .len) s ++ ys) (st .len) (st .len + n) t → LastChild t (take (st .len) s ++ ys) st n
+pub last-child : {o : Option Ty} (s ys : Bytes) {st : Accumulator} {n : ℕ} {t : Ty} → StAs (last o) s st → TypeAt (take (st .len) s ++ ys) (st .len) (st .len + n) t → LastChild t (take (st .len) s ++ ys) st n
 unfolding place
 last-child {o} s ys a g = record { len = a .len; head = last-head o s ys a; child = g }
 
 -- the same of a child that stands there with what was kept
-pub child-last : {o : Option Ty} {t : Ty} {s : Bytes} {st : St} {n : ℕ} → ChildAt (last o) t s st n → LastChild t s st n
+pub child-last : {o : Option Ty} {t : Ty} {s : Bytes} {st : Accumulator} {n : ℕ} → ChildAt (last o) t s st n → LastChild t s st n
 unfolding place
 child-last {o} {s = s} c = record { len = c .state .len; head = front-head o s (c .state); child = c .child }

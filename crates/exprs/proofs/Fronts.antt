@@ -12,6 +12,7 @@ use lib.Seq.{sets, length-sets}
 use Rattle.semantics.specs.Bytes.{Bytes}
 use Rattle.semantics.specs.Ty.{Base, tAny, tBool, tPath, Ty, base, tList, tNode, tRelationship, letter, labelsTo, relTo, lineTo, line}
 use Rattle.semantics.specs.Walk.{kindType}
+use Rattle.ty.specs.Parts.{TypeAt}
 use Rattle.builtins.specs.Rows.{Returned}
 use Rattle.builtins.proofs.Laws.{front-line}
 use Rattle.report.specs.Report.{faultsText}
@@ -61,6 +62,9 @@ module _ {s s′ : Bytes} {r : ℕ} (k : ℕ) (h : 1024 ≤ length s) where
 
   pub var-other : (k ≡ 0 → ⊥) → (k ≡ 1 → ⊥) → (k ≡ 2 → ⊥) → Puts (65 ∷ 44 ∷ []) s s′ r → Returned s s′ (kindType k) r
   var-other a b c p = subst (λ (t : Ty). Returned s s′ t r) (sym (kind-other (eqb k 0) (eqb k 1) (eqb k 2) (ne-eqb k 0 a) (ne-eqb k 1 b) (ne-eqb k 2 c))) (put-any (omega arith) p)
+
+pub var-kind : {s : Bytes} {r k m : ℕ} → k ≡ m → TypeAt s 0 r (kindType k) → TypeAt s 0 r (kindType m)
+var-kind {s} {r} e a = subst (λ (k : ℕ). TypeAt s 0 r (kindType k)) e a
 
 -- ## An end
 

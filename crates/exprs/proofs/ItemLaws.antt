@@ -20,7 +20,7 @@ use Rattle.unify.specs.declared.Unified.{Unified}
 use Rattle.unify.specs.declared.Unified.the-variants.{Done, Mismatch, TooLarge}
 use Rattle.walk_run.specs.Run.{items, meetItem, keepItem}
 use Rattle.exprs.specs.State.{textOf, place, behind, full, ChildAt, KeepAs, Keeps, SomeList, ListKept, Headed, ItemRoom, SomeItem, ItemKept}
-use Rattle.exprs.specs.declared.state.St.{St}
+use Rattle.exprs.specs.declared.state.Accumulator.{Accumulator}
 use Rattle.exprs.specs.declared.state.Keep.{Keep}
 use Rattle.exprs.specs.declared.state.Keep.the-variants.{On, Large}
 use Rattle.exprs.proofs.StateLaws.{Is, list-line, list-head}
@@ -35,7 +35,7 @@ pub list-inside : {s : Bytes} {len : ℕ} → SomeList s len → len ≡ length 
 list-inside {s} {len} p = sym (length-take-le len s (p .at .inside))
 
 module _ {s : Bytes} {len : ℕ} (b : Bool) (h : (t : Ty) → take len s ≡ line t → b ≡ not (tooLarge t)) where
-  pub fitted-on : {q : St} → b ≡ true → Is q len 0 → ListKept s len (On q)
+  pub fitted-on : {q : Accumulator} → b ≡ true → Is q len 0 → ListKept s len (On q)
   unfolding textOf place behind full
   fitted-on {q} e i t g = go (tooLarge (tList t)) (sym e ∙ h (tList t) (g .is))
     where
@@ -61,7 +61,7 @@ any-front (a ∷ b ∷ []) l h = absurd (omega arith)
 any-front (a ∷ b ∷ c ∷ []) l h = absurd (omega arith)
 any-front (a ∷ b ∷ c ∷ d ∷ s) l h = ap (λ (x : Bytes). x ++ (65 ∷ 44 ∷ [])) h
 
-pub any-kept : {s : Bytes} {q : St} → Headed s → Is q 4 0 → Keeps (some (items (some (base tAny)))) s (set (set s 2 65) 3 44) (On q)
+pub any-kept : {s : Bytes} {q : Accumulator} → Headed s → Is q 4 0 → Keeps (some (items (some (base tAny)))) s (set (set s 2 65) 3 44) (On q)
 unfolding textOf place behind full line lineTo letter
 any-kept {s} p i =
     record {
@@ -104,7 +104,7 @@ copied-list {s} {s″} {e} {end} low f g q =
     })
 
 -- there is a running element
-pub record Running (s : Bytes) (st : St) (n : ℕ) : Type 0 where
+pub record Running (s : Bytes) (st : Accumulator) (n : ℕ) : Type 0 where
   pub element : Ty
   pub item : Ty
   pub at : ChildAt (items (some element)) item s st n
@@ -118,7 +118,7 @@ pub record Stood (s : Bytes) (k e end : ℕ) : Type 0 where
   pub head : take 2 s ≡ 74 ∷ 44 ∷ []
   pub low : 4 ≤ k
 
-module _ {s : Bytes} {st : St} {n : ℕ} where
+module _ {s : Bytes} {st : Accumulator} {n : ℕ} where
   -- ### The first item
 
   long-some : {u t : Ty} → ChildAt (items (some u)) t s st n → 4 ≤ st .len

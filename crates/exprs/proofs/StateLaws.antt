@@ -15,7 +15,7 @@ use Rattle.unify_run.proofs.Size.{line-two}
 use Rattle.walk_run.specs.Run.{Kept, empty, over, kept, both, items, last, entries, arms, keepFirst, keepTwo}
 use Rattle.exprs.specs.State.{textOf, place, behind, full, StAs, ChildAt, LastChild, FirstForm}
 use Rattle.exprs.specs.Rules.{TwoKept}
-use Rattle.exprs.specs.declared.state.St.{St}
+use Rattle.exprs.specs.declared.state.Accumulator.{Accumulator}
 
 -- ## A front of the text
 
@@ -41,14 +41,14 @@ front-more s x y {a} {n} p q f g =
 -- ## `start_*`
 
 -- what `state` makes
-abbrev pub Is : St → ℕ → ℕ → Type 0
+abbrev pub Is : Accumulator → ℕ → ℕ → Type 0
 Is r a b = (r .len ≡ a) × (r .second ≡ b) × (r .over ≡ 0)
 
-pub empty-is : {r : St} → Is r 0 0 → (s : Bytes) → StAs empty s r
+pub empty-is : {r : Accumulator} → Is r 0 0 → (s : Bytes) → StAs empty s r
 unfolding textOf place behind full
 empty-is h s = record { len = h .0; second = h .1; over = h .2; front = refl }
 
-pub arms-is : {r : St} → Is r 0 0 → (s : Bytes) → StAs (arms []) s r
+pub arms-is : {r : Accumulator} → Is r 0 0 → (s : Bytes) → StAs (arms []) s r
 unfolding textOf place behind full linesOf
 arms-is h s = record { len = h .0; second = h .1; over = h .2; front = refl }
 
@@ -57,7 +57,7 @@ two-set [] h = absurd (omega arith)
 two-set (a ∷ []) h = absurd (omega arith)
 two-set (a ∷ b ∷ s) h = refl
 
-pub list-is : {r : St} → Is r 2 0 → (s : Bytes) → take 2 s ≡ 74 ∷ 44 ∷ [] → StAs (items none) s r × StAs (last none) s r
+pub list-is : {r : Accumulator} → Is r 2 0 → (s : Bytes) → take 2 s ≡ 74 ∷ 44 ∷ [] → StAs (items none) s r × StAs (last none) s r
 unfolding textOf place behind full
 list-is h s f = (record { len = h .0; second = h .1; over = h .2; front = f }, record { len = h .0; second = h .1; over = h .2; front = f })
 
@@ -68,13 +68,13 @@ four-set (a ∷ b ∷ []) h = absurd (omega arith)
 four-set (a ∷ b ∷ c ∷ []) h = absurd (omega arith)
 four-set (a ∷ b ∷ c ∷ d ∷ s) h = refl
 
-pub map-is : {r : St} → Is r 4 0 → (s : Bytes) → take 4 s ≡ 75 ∷ 44 ∷ 33 ∷ 44 ∷ [] → StAs (entries ∅ᶠ) s r
+pub map-is : {r : Accumulator} → Is r 4 0 → (s : Bytes) → take 4 s ≡ 75 ∷ 44 ∷ 33 ∷ 44 ∷ [] → StAs (entries ∅ᶠ) s r
 unfolding textOf place behind full line lineTo
 map-is h s f = record { len = h .0; second = h .1; over = h .2; front = f }
 
 -- ## `keep_first`, `keep_second`, `keep_last`
 
-pub first-stays : {st : St} {n : ℕ} → 0 < st .len → (s : Bytes) (k : Kept) (t : Ty) → FirstForm k → ChildAt k t s st n → StAs (keepFirst k t) s st
+pub first-stays : {st : Accumulator} {n : ℕ} → 0 < st .len → (s : Bytes) (k : Kept) (t : Ty) → FirstForm k → ChildAt k t s st n → StAs (keepFirst k t) s st
 unfolding keepFirst place
 first-stays h s empty t f c = absurd (omega (arith, c .state .len))
 first-stays h s over t f c = absurd f
@@ -85,13 +85,13 @@ first-stays h s (last e) t f c = absurd f
 first-stays h s (entries fs) t f c = absurd f
 first-stays h s (arms ms) t f c = absurd f
 
-pub kept-is : {r : St} {s : Bytes} {a n : ℕ} {t : Ty} → a ≡ 0 → Is r n 0 → TypeAt s a (a + n) t → StAs (kept t) s r
+pub kept-is : {r : Accumulator} {s : Bytes} {a n : ℕ} {t : Ty} → a ≡ 0 → Is r n 0 → TypeAt s a (a + n) t → StAs (kept t) s r
 unfolding textOf place behind full
 kept-is {r} {s} {a} {n} {t} z h g =
     let l = type-long-front g in
     record { len = h .0 ∙ l; second = h .1; over = h .2; front = front-more s [] (line t) z l refl (g .is) }
 
-pub first-new : {st r : St} {n : ℕ} → st .len ≤ 0 → Is r n 0 → (s : Bytes) (k : Kept) (t : Ty) → FirstForm k → ChildAt k t s st n → StAs (keepFirst k t) s r
+pub first-new : {st r : Accumulator} {n : ℕ} → st .len ≤ 0 → Is r n 0 → (s : Bytes) (k : Kept) (t : Ty) → FirstForm k → ChildAt k t s st n → StAs (keepFirst k t) s r
 unfolding keepFirst place
 first-new h i s empty t f c = kept-is (omega arith) i (c .child)
 first-new h i s over t f c = absurd f
@@ -102,13 +102,13 @@ first-new h i s (last e) t f c = absurd f
 first-new h i s (entries fs) t f c = absurd f
 first-new h i s (arms ms) t f c = absurd f
 
-pub second-new : {st r : St} {n : ℕ} → Is r (st .len) n → (s : Bytes) (u t : Ty) → ChildAt (kept u) t s st n → StAs (both u t) s r
+pub second-new : {st r : Accumulator} {n : ℕ} → Is r (st .len) n → (s : Bytes) (u t : Ty) → ChildAt (kept u) t s st n → StAs (both u t) s r
 unfolding textOf place behind full
 second-new h s u t c =
     let l = type-long-front (c .child) in
     record { len = h .0 ∙ c .state .len; second = h .1 ∙ l; over = h .2; front = front-more s (line u) (line t) (c .state .len) l (c .state .front) (c .child .is) }
 
-pub last-new : {st r : St} {n : ℕ} → Is r (st .len) n → (s : Bytes) (t : Ty) → LastChild t s st n → StAs (last (some t)) s r
+pub last-new : {st r : Accumulator} {n : ℕ} → Is r (st .len) n → (s : Bytes) (t : Ty) → LastChild t s st n → StAs (last (some t)) s r
 unfolding textOf place behind full
 last-new h s t c =
     let l = type-long-front (c .child) in
@@ -121,7 +121,7 @@ last-new h s t c =
 
 -- ## The first two
 
-module _ {st r : St} {n : ℕ} where
+module _ {st r : Accumulator} {n : ℕ} where
   pub two-second : 0 < st .len → ((s : Bytes) (u t : Ty) → ChildAt (kept u) t s st n → StAs (both u t) s r) → TwoKept st n r
   unfolding keepTwo place
   two-second h f s k t g c = go k g c

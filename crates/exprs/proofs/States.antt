@@ -24,7 +24,7 @@ use Rattle.unify_run.specs.Run.{sizes}
 use Rattle.unify_run.proofs.Size.{joined-sizes, line-two}
 use Rattle.walk_run.specs.Run.{Kept, empty, over, kept, both, items, last, entries, arms, Told, told, tooMuch, endList, endCase, endLast}
 use Rattle.exprs.specs.State.{textOf, place, behind, full, ArmForm}
-use Rattle.exprs.specs.declared.state.St.{St}
+use Rattle.exprs.specs.declared.state.Accumulator.{Accumulator}
 use Rattle.report.specs.declared.Tally.{Tally}
 use Rattle.report.proofs.ReportLaws.{adds-none}
 use Rattle.exprs.specs.declared.state.Ended.{Ended}
@@ -40,12 +40,12 @@ front-inside x s e = omega (arith, ap length e, length-take (length x) s)
 line-at : {s : Bytes} {n : ℕ} (t : Ty) → n ≡ length (line t) → take (length (line t)) s ≡ line t → TypeAt s 0 n t
 line-at {s} {n} t e f = record { ordered = omega arith; inside = omega (arith, front-inside (line t) s f); is = ap (λ (k : ℕ). take k s) e ∙ f }
 
-pub kept-at : {t : Ty} {s : Bytes} {st : St} → KeptAt (kept t) s st → TypeAt s 0 (st .len) t
+pub kept-at : {t : Ty} {s : Bytes} {st : Accumulator} → KeptAt (kept t) s st → TypeAt s 0 (st .len) t
 unfolding textOf place
 kept-at {t} k = line-at t (k .state .len) (k .state .front)
 
 -- two types one behind the other
-module _ {a b : Ty} {s : Bytes} {st : St} (k : KeptAt (both a b) s st) where
+module _ {a b : Ty} {s : Bytes} {st : Accumulator} (k : KeptAt (both a b) s st) where
   pair-front : take (length (line a ++ line b)) s ≡ line a ++ line b
   unfolding textOf
   pair-front = k .state .front
@@ -79,7 +79,7 @@ module _ {a b : Ty} {s : Bytes} {st : St} (k : KeptAt (both a b) s st) where
 
 -- ## The element, and the list itself
 
-module _ {t : Ty} {s : Bytes} {st : St} (k : KeptAt (kept t) s st) where
+module _ {t : Ty} {s : Bytes} {st : Accumulator} (k : KeptAt (kept t) s st) where
   kept-some : 0 < st .len
   kept-some = omega (arith, two-at s 0 (st .len) t (kept-at k))
 
@@ -117,11 +117,11 @@ module _ {t : Ty} {s : Bytes} {st : St} (k : KeptAt (kept t) s st) where
 
 -- ## A list literal
 
-items-none : {s : Bytes} {st : St} → KeptAt (items none) s st → st .len ≡ 2
+items-none : {s : Bytes} {st : Accumulator} → KeptAt (items none) s st → st .len ≡ 2
 unfolding place
 items-none k = k .state .len
 
-items-some : {u : Ty} {s : Bytes} {st : St} → KeptAt (items (some u)) s st → TypeAt s 0 (st .len) (tList u)
+items-some : {u : Ty} {s : Bytes} {st : Accumulator} → KeptAt (items (some u)) s st → TypeAt s 0 (st .len) (tList u)
 unfolding textOf place
 items-some {u} k = line-at (tList u) (k .state .len) (k .state .front)
 
@@ -129,7 +129,7 @@ list-long : {s : Bytes} {n : ℕ} {u : Ty} → TypeAt s 0 n (tList u) → 4 ≤ 
 unfolding line lineTo
 list-long {s} {n} {u} h = omega (arith, ap length (h .is), length-take n s, line-two u)
 
-pub list-any : {s s′ : Bytes} {st : St} {r : ℕ} (e : Option Ty) → KeptAt (items e) s st → st .len ≡ 2 → Puts (74 ∷ 44 ∷ 65 ∷ 44 ∷ []) s s′ r
+pub list-any : {s s′ : Bytes} {st : Accumulator} {r : ℕ} (e : Option Ty) → KeptAt (items e) s st → st .len ≡ 2 → Puts (74 ∷ 44 ∷ 65 ∷ 44 ∷ []) s s′ r
     → (t : Ty) → endList (items e) ≡ told t [] → TypeAt s′ 0 r t
 unfolding endList
 list-any {s} {s′} {st} {r} none k q p t h =
@@ -137,7 +137,7 @@ list-any {s} {s′} {st} {r} none k q p t h =
     rw (← z) (put-anys (omega (arith, k .wide)) p .at)
 list-any (some u) k q p t h = absurd (omega (arith, list-long (items-some k)))
 
-pub list-kept : {s : Bytes} {st : St} (e : Option Ty) → KeptAt (items e) s st → (st .len ≡ 2 → ⊥) → (t : Ty) → endList (items e) ≡ told t [] → TypeAt s 0 (st .len) t
+pub list-kept : {s : Bytes} {st : Accumulator} (e : Option Ty) → KeptAt (items e) s st → (st .len ≡ 2 → ⊥) → (t : Ty) → endList (items e) ≡ told t [] → TypeAt s 0 (st .len) t
 unfolding endList
 list-kept none k q t h = absurd (q (items-none k))
 list-kept (some u) k q t h =
@@ -147,7 +147,7 @@ list-kept (some u) k q t h =
 -- ## The arms of a CASE
 
 -- the members stand at the front, and there is room for the brackets
-pub record ArmsAt (k : Kept) (s : Bytes) (st : St) : Type 0 where
+pub record ArmsAt (k : Kept) (s : Bytes) (st : Accumulator) : Type 0 where
   pub members : List Ty
   pub is : k ≡ arms members
   pub at : TypesAt s 0 (st .len) members
@@ -158,7 +158,7 @@ unfolding sizes linesOf
 sizes-lines [] = refl
 sizes-lines (t ∷ ts) = ap (λ (n : ℕ). length (line t) + n) (sizes-lines ts) ∙ sym (length-append (line t) (linesOf ts))
 
-arms-at : {ms : List Ty} {s : Bytes} {st : St} → KeptAt (arms ms) s st → ArmsAt (arms ms) s st
+arms-at : {ms : List Ty} {s : Bytes} {st : Accumulator} → KeptAt (arms ms) s st → ArmsAt (arms ms) s st
 unfolding textOf place overlong
 arms-at {ms} {s} {st} k =
     let l = k .state .len in
@@ -170,7 +170,7 @@ arms-at {ms} {s} {st} k =
       short = omega (arith, ltb-false 1024 (length (line (joined ms))) (k .fine .1), joined-sizes ms .0, sizes-lines ms);
     }
 
-pub case-arms : {s : Bytes} {st : St} (k : Kept) → ArmForm k → KeptAt k s st → (st .over ≡ 1 → ⊥) → ArmsAt k s st
+pub case-arms : {s : Bytes} {st : Accumulator} (k : Kept) → ArmForm k → KeptAt k s st → (st .over ≡ 1 → ⊥) → ArmsAt k s st
 case-arms empty f k q = absurd f
 case-arms over f k q = absurd (q (unfold full in k .state .over))
 case-arms (kept t) f k q = absurd f
@@ -180,7 +180,7 @@ case-arms (last e) f k q = absurd f
 case-arms (entries fs) f k q = absurd f
 case-arms (arms ms) f k q = arms-at k
 
-pub case-over : {s : Bytes} {st : St} (k : Kept) → ArmForm k → KeptAt k s st → st .over ≡ 1 → endCase k ≡ tooMuch
+pub case-over : {s : Bytes} {st : Accumulator} (k : Kept) → ArmForm k → KeptAt k s st → st .over ≡ 1 → endCase k ≡ tooMuch
 unfolding endCase
 case-over empty f k q = absurd f
 case-over over f k q = refl
@@ -191,7 +191,7 @@ case-over (last e) f k q = absurd f
 case-over (entries fs) f k q = absurd f
 case-over {st = st} (arms ms) f k q = absurd (let z : st .over ≡ 0 = unfold full in k .state .over in omega arith)
 
-pub case-closing : {s : Bytes} {st : St} → SomeArms s st → (st .over ≡ 1 → ⊥) → Closing s (st .len)
+pub case-closing : {s : Bytes} {st : Accumulator} → SomeArms s st → (st .over ≡ 1 → ⊥) → Closing s (st .len)
 case-closing {s} {st} p q =
     let a = case-arms (p .is) (p .form) (p .at) q in
     record { members = a .members; front = a .at; room = omega (arith, a .short, p .room) }
@@ -200,10 +200,10 @@ case-closing {s} {st} p q =
 quiet : {x : Told} {s s′ out : Bytes} {n : Tally} {r : Ended} → EndedAs x s′ out out n r → length s′ ≡ length s → Ends x s s′ out out n r
 quiet a l = record { answer = a; long = l; as-long = refl }
 
-pub case-large : {s out : Bytes} {n : Tally} (k : Kept) {st : St} → ArmForm k → KeptAt k s st → st .over ≡ 1 → Ends (endCase k) s s out out n Large
+pub case-large : {s out : Bytes} {n : Tally} (k : Kept) {st : Accumulator} → ArmForm k → KeptAt k s st → st .over ≡ 1 → Ends (endCase k) s s out out n Large
 case-large k f h q = rw (case-over k f h q) (quiet tt refl)
 
-module _ {s s′ out : Bytes} {n : Tally} {st : St} {r : Grown} (c : Closed s s′ (st .len) r) (q : st .over ≡ 1 → ⊥) (k : Kept) (f : ArmForm k) (h : KeptAt k s st) where
+module _ {s s′ out : Bytes} {n : Tally} {st : Accumulator} {r : Grown} (c : Closed s s′ (st .len) r) (q : st .over ≡ 1 → ⊥) (k : Kept) (f : ArmForm k) (h : KeptAt k s st) where
   pub case-typed : {len : ℕ} → r ≡ Len len → Ends (endCase k) s s′ out out n (Typed len n)
   unfolding endCase
   case-typed {len} e =
@@ -233,18 +233,18 @@ module _ {s s′ out : Bytes} {n : Tally} {st : St} {r : Grown} (c : Closed s s�
 
 -- ## A comprehension
 
-pub last-at : {t : Ty} {s : Bytes} {st : St} → KeptAt (last (some t)) s st → TypeAt s 0 (st .len + st .second) (tList t)
+pub last-at : {t : Ty} {s : Bytes} {st : Accumulator} → KeptAt (last (some t)) s st → TypeAt s 0 (st .len + st .second) (tList t)
 unfolding textOf place behind line lineTo
 last-at {t} {s} {st} k = line-at (tList t) (omega (arith, k .state .len, k .state .second)) (k .state .front)
 
-pub last-inside : {s : Bytes} {st : St} → SomeLast s st → st .len + st .second ≤ length s
+pub last-inside : {s : Bytes} {st : Accumulator} → SomeLast s st → st .len + st .second ≤ length s
 last-inside p = last-at (p .at) .inside
 
-pub last-line : {s : Bytes} {st : St} → SomeLast s st → TypeFrom (take (st .len + st .second) s) 0
+pub last-line : {s : Bytes} {st : Accumulator} → SomeLast s st → TypeFrom (take (st .len + st .second) s) 0
 unfolding line
 last-line p = record { ty = tList (p .ty); rest = []; is = last-at (p .at) .is }
 
-module _ {s out : Bytes} {n : Tally} {st : St} (b : Bool) (h : (t : Ty) → take (st .len + st .second) s ≡ line t → b ≡ not (tooLarge t)) (t : Ty) (k : KeptAt (last (some t)) s st) where
+module _ {s out : Bytes} {n : Tally} {st : Accumulator} (b : Bool) (h : (t : Ty) → take (st .len + st .second) s ≡ line t → b ≡ not (tooLarge t)) (t : Ty) (k : KeptAt (last (some t)) s st) where
   pub last-typed : b ≡ true → Ends (endLast (last (some t))) s s out out n (Typed (st .len + st .second) n)
   unfolding endLast
   last-typed e = quiet (go (tooLarge (tList t)) (sym e ∙ h (tList t) (last-at k .is))) refl

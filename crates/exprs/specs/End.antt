@@ -17,7 +17,7 @@ use Rattle.report.specs.Report.{Adds}
 use Rattle.report.specs.declared.Tally.{Tally}
 use Rattle.walk_run.specs.Run.{Kept, empty, kept, both, items, last, Told, told, tooMuch}
 use Rattle.exprs.specs.State.{StAs, FineKept, ArmForm}
-use Rattle.exprs.specs.declared.state.St.{St}
+use Rattle.exprs.specs.declared.state.Accumulator.{Accumulator}
 use Rattle.exprs.specs.declared.state.Ended.{Ended}
 use Rattle.exprs.specs.declared.state.Ended.the-variants.{Typed, Large}
 
@@ -39,24 +39,24 @@ pub record Countable (n : Tally) : Type 0 where
   pub faults : n .faults + 2 < 2 ^ 64
 
 -- what is kept stands there, fine, with room for a type
-pub record KeptAt (k : Kept) (s : Bytes) (st : St) : Type 0 where
+pub record KeptAt (k : Kept) (s : Bytes) (st : Accumulator) : Type 0 where
   pub state : StAs k s st
   pub fine : FineKept k
   pub wide : typeLimit ≤ length s
 
 -- two operands, with room for their unification
-pub record TwoAt (a b : Ty) (s : Bytes) (st : St) : Type 0 where
+pub record TwoAt (a b : Ty) (s : Bytes) (st : Accumulator) : Type 0 where
   pub at : KeptAt (both a b) s st
   pub room : st .len + st .second + typeLimit * slots a b ≤ length s
   pub small : 8192 ≤ length s
 
-pub record SomeTwo (s : Bytes) (st : St) : Type 0 where
+pub record SomeTwo (s : Bytes) (st : Accumulator) : Type 0 where
   pub left : Ty
   pub right : Ty
   pub at : TwoAt left right s st
 
 -- one operand; or, of a call, none
-pub record SomeOne (s : Bytes) (st : St) : Type 0 where
+pub record SomeOne (s : Bytes) (st : Accumulator) : Type 0 where
   pub ty : Ty
   pub at : KeptAt (kept ty) s st
 
@@ -64,22 +64,22 @@ abbrev pub argKept : Option Ty → Kept
 argKept none = empty
 argKept (some t) = kept t
 
-pub record SomeArg (s : Bytes) (st : St) : Type 0 where
+pub record SomeArg (s : Bytes) (st : Accumulator) : Type 0 where
   pub arg : Option Ty
   pub at : KeptAt (argKept arg) s st
 
 -- the items of a list; the arms of a CASE, with room for the brackets of their union; the last child of a comprehension
-pub record SomeItems (s : Bytes) (st : St) : Type 0 where
+pub record SomeItems (s : Bytes) (st : Accumulator) : Type 0 where
   pub element : Option Ty
   pub at : KeptAt (items element) s st
 
-pub record SomeArms (s : Bytes) (st : St) : Type 0 where
+pub record SomeArms (s : Bytes) (st : Accumulator) : Type 0 where
   pub is : Kept
   pub form : ArmForm is
   pub at : KeptAt is s st
   pub room : 1028 ≤ length s
 
-pub record SomeLast (s : Bytes) (st : St) : Type 0 where
+pub record SomeLast (s : Bytes) (st : Accumulator) : Type 0 where
   pub ty : Ty
   pub at : KeptAt (last (some ty)) s st
 

@@ -12,7 +12,7 @@ use Rattle.line.specs.Rows.{wordNo}
 use Rattle.builtins.specs.Rows.{Returned}
 use Rattle.walk_run.specs.Run.{Kept, keepTwo, keepAnswer}
 use Rattle.exprs.specs.State.{StAs, ChildAt, FirstForm, ArmForm}
-use Rattle.exprs.specs.declared.state.St.{St}
+use Rattle.exprs.specs.declared.state.Accumulator.{Accumulator}
 
 -- ## Numbers of rules and roles
 
@@ -49,10 +49,10 @@ caseRow f k = present (low f) plain (armRoles (cond (eqb (low f) 0) condition pl
 -- ## What is ensured by a number
 
 -- the first two are kept; of a CASE the answers
-abbrev pub TwoKept : St → ℕ → St → Type 0
+abbrev pub TwoKept : Accumulator → ℕ → Accumulator → Type 0
 TwoKept st n r = (s : Bytes) (k : Kept) (t : Ty) → FirstForm k → ChildAt k t s st n → StAs (keepTwo k t) s r
 
-pub record AnswerKept (i : ℕ) (s s′ : Bytes) (st : St) (n : ℕ) (r : St) : Type 0 where
+pub record AnswerKept (i : ℕ) (s s′ : Bytes) (st : Accumulator) (n : ℕ) (r : Accumulator) : Type 0 where
   pub long : length s′ ≡ length s
   pub kept : (p : Role) (k : Kept) (t : Ty) → i ≡ roleNo p → ArmForm k → ChildAt k t s st n → StAs (keepAnswer p k t) s′ r
 

@@ -14,7 +14,7 @@ use Rattle.ty.specs.Parts.{linesOf, TypeAt}
 use Rattle.ty.specs.Union.{overlong}
 use Rattle.unify.specs.Work.{slots}
 use Rattle.walk_run.specs.Run.{Kept, empty, over, kept, both, items, last, entries, arms, unlessLarge, keepItem, keepEntry, keepArm}
-use Rattle.exprs.specs.declared.state.St.{St}
+use Rattle.exprs.specs.declared.state.Accumulator.{Accumulator}
 use Rattle.exprs.specs.declared.state.Keep.{Keep}
 use Rattle.exprs.specs.declared.state.Keep.the-variants.{On, Large}
 
@@ -71,7 +71,7 @@ full (last e) = 0
 full (entries fs) = 0
 full (arms ms) = 0
 
-pub record StAs (k : Kept) (s : Bytes) (st : St) : Type 0 where
+pub record StAs (k : Kept) (s : Bytes) (st : Accumulator) : Type 0 where
   pub len : st .len ≡ place k
   pub second : st .second ≡ behind k
   pub over : st .over ≡ full k
@@ -98,7 +98,7 @@ FineKept (entries fs) = Fine (tMap fs)
 FineKept (arms ms) = Sorted ms × (overlong ms ≡ false)
 
 -- what is kept, and a child's type of n bytes where the next one goes
-pub record ChildAt (k : Kept) (t : Ty) (s : Bytes) (st : St) (n : ℕ) : Type 0 where
+pub record ChildAt (k : Kept) (t : Ty) (s : Bytes) (st : Accumulator) (n : ℕ) : Type 0 where
   pub state : StAs k s st
   pub fine : FineKept k
   pub child : TypeAt s (st .len) (st .len + n) t
@@ -129,7 +129,7 @@ ArmForm (entries fs) = ⊥
 ArmForm (arms ms) = Unit {0}
 
 -- a comprehension's `J,` and a child's type of n bytes behind it, in place of the one before
-pub record LastChild (t : Ty) (s : Bytes) (st : St) (n : ℕ) : Type 0 where
+pub record LastChild (t : Ty) (s : Bytes) (st : Accumulator) (n : ℕ) : Type 0 where
   pub len : st .len ≡ 2
   pub head : take 2 s ≡ listLetter ∷ comma ∷ []
   pub child : TypeAt s (st .len) (st .len + n) t
@@ -167,19 +167,19 @@ abbrev pub ItemRoom : Option Ty → Ty → Bytes → ℕ → Type 0
 ItemRoom none t s e = Unit {0}
 ItemRoom (some u) t s e = e + typeLimit * slots u t ≤ length s
 
-pub record SomeItem (s : Bytes) (st : St) (n : ℕ) : Type 0 where
+pub record SomeItem (s : Bytes) (st : Accumulator) (n : ℕ) : Type 0 where
   pub before : Option Ty
   pub ty : Ty
   pub at : ChildAt (items before) ty s st n
   pub room : ItemRoom before ty s (st .len + n)
   pub wide : typeLimit ≤ length s
 
-abbrev pub ItemKept : Bytes → Bytes → St → ℕ → Keep → Type 0
+abbrev pub ItemKept : Bytes → Bytes → Accumulator → ℕ → Keep → Type 0
 ItemKept s s′ st n r = (e : Option Ty) (t : Ty) → ChildAt (items e) t s st n → Keeps (keepItem (items e) t) s s′ r
 
 -- ## An entry of a map, its name spelt x
 
-pub record SomeEntry (s : Bytes) (st : St) (n : ℕ) (x : Bytes) : Type 0 where
+pub record SomeEntry (s : Bytes) (st : Accumulator) (n : ℕ) (x : Bytes) : Type 0 where
   pub before : Fields
   pub ty : Ty
   pub name : Bytes
@@ -187,17 +187,17 @@ pub record SomeEntry (s : Bytes) (st : St) (n : ℕ) (x : Bytes) : Type 0 where
   pub spelt : x ≡ map hex name
   pub wide : typeLimit ≤ length s
 
-abbrev pub EntryKept : Bytes → Bytes → St → ℕ → Bytes → Keep → Type 0
+abbrev pub EntryKept : Bytes → Bytes → Accumulator → ℕ → Bytes → Keep → Type 0
 EntryKept s s′ st n x r = (fs : Fields) (t : Ty) (m : Bytes) → ChildAt (entries fs) t s st n → x ≡ map hex m → Keeps (keepEntry (entries fs) m t) s s′ r
 
 -- ## An arm of a CASE
 
-pub record SomeArm (s : Bytes) (st : St) (n : ℕ) : Type 0 where
+pub record SomeArm (s : Bytes) (st : Accumulator) (n : ℕ) : Type 0 where
   pub before : Kept
   pub ty : Ty
   pub form : ArmForm before
   pub at : ChildAt before ty s st n
 
-pub record ArmKept (s s′ : Bytes) (st : St) (n : ℕ) (r : St) : Type 0 where
+pub record ArmKept (s s′ : Bytes) (st : Accumulator) (n : ℕ) (r : Accumulator) : Type 0 where
   pub long : length s′ ≡ length s
   pub kept : (k : Kept) (t : Ty) → ArmForm k → ChildAt k t s st n → StAs (keepArm k t) s′ r

@@ -11,8 +11,8 @@ ghost use Rattle.walk_run.specs.Run.{told, argsOf};
 ghost use Rattle.exprs.specs.End.{Ends, Countable, KeptAt, SomeArg, argKept};
 ghost use Rattle.exprs.specs.End.{Checked};
 use crate::front::put_letter;
+use crate::state::Accumulator;
 use crate::state::Ended;
-use crate::state::St;
 use report::Tally;
 use ty::ANY;
 
@@ -31,7 +31,13 @@ fn check_builtin_args(row: usize, len: usize, work: &[u8], out: &mut [u8], tally
     report::fault_call(out, tally, row, kind)
 }
 
-pub fn end_call(name: &[u8], st: St, work: &mut [u8], out: &mut [u8], tally: Tally) -> Ended
+pub fn end_call(
+    name: &[u8],
+    st: Accumulator,
+    work: &mut [u8],
+    out: &mut [u8],
+    tally: Tally,
+) -> Ended
     requires { ⌜ SomeArg (now work) st × Countable tally ⌝ }
     ensures { λ r. ⌜ ((a : Option Ty) → KeptAt (argKept a) (now (work .entry)) st → Ends (told (callType (lookup (map digitOf (now (name .entry)))) (argsOf (argKept a))) (callFaults (lookup (map digitOf (now (name .entry)))) (argsOf (argKept a)))) (now (work .entry)) (now (work .exit)) (now (out .entry)) (now (out .exit)) tally r) ⌝ }
 {

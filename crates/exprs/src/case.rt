@@ -12,14 +12,14 @@ ghost use Rattle.exprs.specs.Rules.{roleNo, caseRow, AnswerKept};
 use crate::role::ANSWER;
 use crate::role::CONDITION;
 use crate::role::PLAIN;
+use crate::state::Accumulator;
 use crate::state::Ended;
-use crate::state::St;
 use crate::state::state;
 use report::Tally;
 use ty::Grown;
 
 // No answer.
-pub fn start_arms() -> St
+pub fn start_case() -> Accumulator
     ensures { λ r. ⌜ ((s : Bytes) → StAs (arms []) s r) ⌝ }
 {
     state(0, 0)
@@ -45,7 +45,7 @@ pub fn case_role(flag: u64, count: u64, j: usize) -> usize
 }
 
 // An answer joins the union; once that is too large, the answers still to come are only typed.
-fn case_arm(st: St, work: &mut [u8], n: usize) -> St
+fn case_arm(st: Accumulator, work: &mut [u8], n: usize) -> Accumulator
     requires { ⌜ SomeArm (now work) st n ⌝ }
     ensures { λ r. ⌜ ArmKept (now (work .entry)) (now (work .exit)) st n r ⌝ }
 {
@@ -55,7 +55,7 @@ fn case_arm(st: St, work: &mut [u8], n: usize) -> St
     let k = st.len;
     match ty::add_union(work, k, k + n) {
         Grown::Len(r) => state(r, 0),
-        Grown::TooLarge => St {
+        Grown::TooLarge => Accumulator {
             len: 0,
             second: 0,
             over: 1,
@@ -64,7 +64,7 @@ fn case_arm(st: St, work: &mut [u8], n: usize) -> St
 }
 
 // An answer; a scrutinee or a condition only stands behind.
-pub fn keep_answer(role: usize, st: St, work: &mut [u8], n: usize) -> St
+pub fn case_child(role: usize, st: Accumulator, work: &mut [u8], n: usize) -> Accumulator
     requires { ⌜ SomeArm (now work) st n ⌝ }
     ensures { λ r. ⌜ AnswerKept role (now (work .entry)) (now (work .exit)) st n r ⌝ }
 {
@@ -75,7 +75,7 @@ pub fn keep_answer(role: usize, st: St, work: &mut [u8], n: usize) -> St
 }
 
 // The union of the answers.
-pub fn end_case(st: St, work: &mut [u8], out: &[u8], tally: Tally) -> Ended
+pub fn end_case(st: Accumulator, work: &mut [u8], out: &[u8], tally: Tally) -> Ended
     requires { ⌜ SomeArms (now work) st ⌝ }
     ensures { λ r. ⌜ ((k : Kept) → ArmForm k → KeptAt k (now (work .entry)) st → Ends (endCase k) (now (work .entry)) (now (work .exit)) (now (out .entry)) (now (out .entry)) tally r) ⌝ }
 {

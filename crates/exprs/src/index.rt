@@ -7,12 +7,12 @@ ghost use Rattle.ty.specs.Parts.{TypeAt};
 ghost use Rattle.walk_run.specs.Run.{kept};
 ghost use Rattle.exprs.specs.End.{KeptAt, SomeOne};
 use crate::front::put_letter;
-use crate::state::St;
+use crate::state::Accumulator;
 use ty::ANY;
 use ty::LIST;
 
 // The element of a list, else Any.
-pub fn end_element(st: St, work: &mut [u8]) -> usize
+pub fn end_index(st: Accumulator, work: &mut [u8]) -> usize
     requires { ⌜ SomeOne (now work) st ⌝ }
     ensures { λ r. ⌜ (length (now (work .exit)) ≡ length (now (work .entry))) × ((t : Ty) → KeptAt (kept t) (now (work .entry)) st → TypeAt (now (work .exit)) 0 r (elementOf t)) ⌝ }
 {
@@ -26,7 +26,7 @@ pub fn end_element(st: St, work: &mut [u8]) -> usize
 }
 
 // The list itself, else Any.
-pub fn end_slice(st: St, work: &mut [u8]) -> usize
+pub fn end_slice(st: Accumulator, work: &mut [u8]) -> usize
     requires { ⌜ SomeOne (now work) st ⌝ }
     ensures { λ r. ⌜ (length (now (work .exit)) ≡ length (now (work .entry))) × ((t : Ty) → KeptAt (kept t) (now (work .entry)) st → TypeAt (now (work .exit)) 0 r (listOr (base tAny) t)) ⌝ }
 {

@@ -10,8 +10,8 @@ ghost use Rattle.walk_run.specs.Run.{items, last, told, endList};
 ghost use Rattle.exprs.specs.State.{StAs, Keeps, SomeList, ListKept, Headed, SomeItem, ItemKept};
 ghost use Rattle.exprs.specs.End.{KeptAt, SomeItems};
 use crate::front::put_pair;
+use crate::state::Accumulator;
 use crate::state::Keep;
-use crate::state::St;
 use crate::state::state;
 use text::COMMA;
 use ty::ANY;
@@ -19,7 +19,7 @@ use ty::LIST;
 use unify::Unified;
 
 // `J,` for a list and for a comprehension.
-pub fn start_list(work: &mut [u8]) -> St
+pub fn start_list(work: &mut [u8]) -> Accumulator
     requires { ⌜ 1024 ≤ length (now work) ⌝ }
     ensures { λ r. ⌜ StAs (items none) (now (work .exit)) r × StAs (last none) (now (work .exit)) r × (length (now (work .exit)) ≡ length (now (work .entry))) ⌝ }
 {
@@ -50,7 +50,7 @@ fn any_items(work: &mut [u8]) -> Keep
 }
 
 // An item of a list, behind the running element.
-pub fn list_item(st: St, work: &mut [u8], n: usize) -> Keep
+pub fn list_item(st: Accumulator, work: &mut [u8], n: usize) -> Keep
     requires { ⌜ SomeItem (now work) st n ⌝ }
     ensures { λ r. ⌜ ItemKept (now (work .entry)) (now (work .exit)) st n r ⌝ }
 {
@@ -75,7 +75,7 @@ pub fn list_item(st: St, work: &mut [u8], n: usize) -> Keep
 }
 
 // With no item its element is Any.
-pub fn end_list(st: St, work: &mut [u8]) -> usize
+pub fn end_list(st: Accumulator, work: &mut [u8]) -> usize
     requires { ⌜ SomeItems (now work) st ⌝ }
     ensures { λ r. ⌜ (length (now (work .exit)) ≡ length (now (work .entry))) × ((e : Option Ty) → KeptAt (items e) (now (work .entry)) st → (t : Ty) → endList (items e) ≡ told t [] → TypeAt (now (work .exit)) 0 r t) ⌝ }
 {

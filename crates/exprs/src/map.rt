@@ -5,8 +5,8 @@ ghost use lib.ListN.{length};
 ghost use Rattle.semantics.specs.Ty.{∅ᶠ};
 ghost use Rattle.walk_run.specs.Run.{entries};
 ghost use Rattle.exprs.specs.State.{StAs, SomeEntry, EntryKept};
+use crate::state::Accumulator;
 use crate::state::Keep;
-use crate::state::St;
 use crate::state::state;
 use text::COMMA;
 use ty::CLOSE;
@@ -14,7 +14,7 @@ use ty::Grown;
 use ty::MAP;
 
 // The map with no entries.
-pub fn start_map(work: &mut [u8]) -> St
+pub fn start_map(work: &mut [u8]) -> Accumulator
     requires { ⌜ 1024 ≤ length (now work) ⌝ }
     ensures { λ r. ⌜ StAs (entries ∅ᶠ) (now (work .exit)) r × (length (now (work .exit)) ≡ length (now (work .entry))) ⌝ }
 {
@@ -26,7 +26,7 @@ pub fn start_map(work: &mut [u8]) -> St
 }
 
 // An entry of a map, its name in hexadecimal digits.
-pub fn map_value(st: St, work: &mut [u8], n: usize, name: &[u8]) -> Keep
+pub fn map_value(st: Accumulator, work: &mut [u8], n: usize, name: &[u8]) -> Keep
     requires { ⌜ SomeEntry (now work) st n (now name) ⌝ }
     ensures { λ r. ⌜ EntryKept (now (work .entry)) (now (work .exit)) st n (now (name .entry)) r ⌝ }
 {

@@ -8,7 +8,7 @@ ghost use Rattle.line.specs.Rows.{wordNo};
 ghost use Rattle.line.specs.Line.{HeadIs};
 ghost use Rattle.exprs.specs.Rules.{ruleNo, roleNo};
 use crate::case::case_role;
-use crate::comprehension::around_role;
+use crate::comprehension::comprehension_role;
 use crate::role::PLAIN;
 use line::Head;
 
@@ -84,8 +84,8 @@ pub fn role_of(h: Head, j: usize) -> usize
     let word = h.word;
     match word {
         line::CASE => case_role(h.flag, h.count, j),
-        line::LCP => around_role(h.flag, j),
-        line::PCP => around_role(h.flag, j),
+        line::LCP => comprehension_role(h.flag, j),
+        line::PCP => comprehension_role(h.flag, j),
         _ => PLAIN,
     }
 }

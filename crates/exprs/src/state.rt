@@ -8,7 +8,7 @@ ghost use Rattle.exprs.specs.Rules.{TwoKept};
 use report::Tally;
 
 // The kept text is `len` long up to where the next child's type goes, and `second` behind that; `over` is 1 once a CASE is too large.
-pub struct St {
+pub struct Accumulator {
     pub len: usize,
     pub second: usize,
     pub over: usize,
@@ -16,7 +16,7 @@ pub struct St {
 
 // What is kept now, or that it is too large.
 pub enum Keep {
-    On(St),
+    On(Accumulator),
     Large,
 }
 
@@ -26,10 +26,10 @@ pub enum Ended {
     Large,
 }
 
-pub fn state(len: usize, second: usize) -> St
+pub fn state(len: usize, second: usize) -> Accumulator
     ensures { λ r. ⌜ (r .len ≡ len) × (r .second ≡ second) × (r .over ≡ 0) ⌝ }
 {
-    St {
+    Accumulator {
         len,
         second,
         over: 0,
@@ -37,14 +37,14 @@ pub fn state(len: usize, second: usize) -> St
 }
 
 // Nothing, before the first child.
-pub fn start_empty() -> St
+pub fn start_empty() -> Accumulator
     ensures { λ r. ⌜ ((s : Bytes) → StAs empty s r) ⌝ }
 {
     state(0, 0)
 }
 
 // The first child's type stays.
-pub fn keep_first(st: St, n: usize) -> St
+pub fn keep_first(st: Accumulator, n: usize) -> Accumulator
     ensures { λ r. ⌜ ((s : Bytes) (k : Kept) (t : Ty) → FirstForm k → ChildAt k t s st n → StAs (keepFirst k t) s r) ⌝ }
 {
     if st.len > 0 {
@@ -54,14 +54,14 @@ pub fn keep_first(st: St, n: usize) -> St
 }
 
 // The second child's type behind the first.
-fn keep_second(st: St, n: usize) -> St
+fn keep_second(st: Accumulator, n: usize) -> Accumulator
     ensures { λ r. ⌜ ((s : Bytes) (u t : Ty) → ChildAt (kept u) t s st n → StAs (both u t) s r) ⌝ }
 {
     state(st.len, n)
 }
 
 // The first two.
-pub fn keep_two(st: St, n: usize) -> St
+pub fn keep_two(st: Accumulator, n: usize) -> Accumulator
     ensures { λ r. ⌜ TwoKept st n r ⌝ }
 {
     if st.len > 0 {

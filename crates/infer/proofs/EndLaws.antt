@@ -32,12 +32,12 @@ use Rattle.report.specs.declared.Tally.{Tally}
 use Rattle.report.proofs.ReportLaws.{adds-none}
 use Rattle.walk_run.specs.Run.{Kept, empty, over, kept, both, items, last, entries, arms, Told, told, firstOf, secondOf, argsOf, endOp, endIn, endList, endMap, endCase, endLast, end}
 use Rattle.exprs.specs.State.{textOf, place, ArmForm}
-use Rattle.exprs.specs.declared.state.St.{St}
+use Rattle.exprs.specs.declared.state.Accumulator.{Accumulator}
 use Rattle.exprs.specs.End.{Ends, Countable, KeptAt, TwoAt, SomeTwo, SomeOne, argKept, SomeArg, SomeItems, SomeArms, SomeLast}
 use Rattle.exprs.specs.declared.state.Ended.{Ended}
 use Rattle.exprs.specs.declared.state.Ended.the-variants.{Typed}
 use Rattle.exprs.specs.Rules.{typingNo, ruleNo, ConstantBy}
-use Rattle.infer.specs.Steps.{AtMostOne, One, Two, Items, LastOne, Entries, EnvAs, EndAt, SomeEnd, EndedBy, SpeltAs, SomeQuiet, QuietBy}
+use Rattle.infer.specs.Steps.{AtMostOne, One, Two, Items, LastOne, Entries, EnvAs, EndAt, SomeEnd, EndedBy, SpeltAs, QuietBy}
 use Rattle.infer.specs.declared.step.Env.{Env as Binds}
 use Rattle.exprs.proofs.RoleLaws.{Missed, missed-out}
 use Rattle.infer.proofs.StepLaws.{typingOf, typing-at}
@@ -166,10 +166,10 @@ last-is (items e) w = absurd w
 last-is (entries fs) w = absurd w
 last-is (arms ms) w = absurd w
 
-at-kept : {q : Typing} {k : Kept} {hd : Head} {sheet : Bytes} {h : Seen} {s : Bytes} {st : St} → EndAt q k hd sheet h s st → KeptAt k s st
+at-kept : {q : Typing} {k : Kept} {hd : Head} {sheet : Bytes} {h : Seen} {s : Bytes} {st : Accumulator} → EndAt q k hd sheet h s st → KeptAt k s st
 at-kept d = record { state = d .state; fine = d .fine; wide = omega (arith, d .wide) }
 
-module _ {q : Typing} {k : Kept} {hd : Head} {sheet : Bytes} {h : Seen} {s : Bytes} {st : St} (d : EndAt q k hd sheet h s st) where
+module _ {q : Typing} {k : Kept} {hd : Head} {sheet : Bytes} {h : Seen} {s : Bytes} {st : Accumulator} (d : EndAt q k hd sheet h s st) where
   at-one : One k → KeptAt (kept (firstOf k)) s st
   at-one w = rw (one-is k w) at (at-kept d)
 
@@ -184,11 +184,11 @@ module _ {q : Typing} {k : Kept} {hd : Head} {sheet : Bytes} {h : Seen} {s : Byt
 abbrev pub RuleNo : ℕ → Seen → Type 0
 RuleNo i h = (v : Word) → h .word ≡ wordNo v → i ≡ ruleNo (row v .rule)
 
-rule-of : {q : Typing} {k : Kept} {hd : Head} {sheet : Bytes} {h : Seen} {s : Bytes} {st : St} {i : ℕ} → RuleNo i h → EndAt q k hd sheet h s st → i ≡ typingNo q
+rule-of : {q : Typing} {k : Kept} {hd : Head} {sheet : Bytes} {h : Seen} {s : Bytes} {st : Accumulator} {i : ℕ} → RuleNo i h → EndAt q k hd sheet h s st → i ≡ typingNo q
 unfolding ruleNo
 rule-of {hd = hd} f d = f (hd .word) (d .head .word) ∙ ap ruleNo (d .ruled)
 
-typing-small : (q : Typing) → typingNo q < 12
+pub typing-small : (q : Typing) → typingNo q < 12
 unfolding typingNo
 typing-small (constant t) = omega arith
 typing-small varType = omega arith
@@ -203,23 +203,11 @@ typing-small casing = omega arith
 typing-small membership = omega arith
 typing-small comprehension = omega arith
 
-module _ {i : ℕ} {sheet : Bytes} {h : Seen} {s : Bytes} {st : St} (nr : RuleNo i h) where
-  low-rule : {q : Typing} {k : Kept} {hd : Head} → Missed 6 6 i → EndAt q k hd sheet h s st → typingNo q < 6
-  low-rule {q} m d = go (typingNo q) (typing-small q) (rule-of nr d)
-    where
-      go : (n : ℕ) → n < 12 → i ≡ n → n < 6
-      go n l e = under n l (rw e at m)
-        where
-          under : (n : ℕ) → n < 12 → Missed 6 6 n → n < 6
-          under (suc (suc (suc (suc (suc (suc n)))))) l u = absurd (omega (arith, missed-out 6 6 (suc (suc (suc (suc (suc (suc n)))))) u (omega arith)))
-          under zero l u = omega arith
-          under (suc zero) l u = omega arith
-          under (suc (suc zero)) l u = omega arith
-          under (suc (suc (suc zero))) l u = omega arith
-          under (suc (suc (suc (suc zero)))) l u = omega arith
-          under (suc (suc (suc (suc (suc zero))))) l u = omega arith
+-- behind the arms of the match only a comprehension is left
+pub last-rule : {q : Typing} {k : Kept} {hd : Head} {sheet : Bytes} {h : Seen} {s : Bytes} {st : Accumulator} {i : ℕ} → RuleNo i h → Missed 0 11 i → EndAt q k hd sheet h s st → i ≡ 11
+last-rule {q} {i = i} nr m d = omega (arith, rule-of nr d, typing-small q, missed-out 0 11 i m (omega arith))
 
-module _ {i : ℕ} {sheet : Bytes} {b : Binds} {h : Seen} {s : Bytes} {st : St} {y : Tally} (nr : RuleNo i h) where
+module _ {i : ℕ} {sheet : Bytes} {b : Binds} {h : Seen} {s : Bytes} {st : Accumulator} {y : Tally} (nr : RuleNo i h) where
   -- ## What the calls ask for
 
   end-at : (n : ℕ) → 0 < n → i ≡ n → (d : SomeEnd sheet b h s st y) → EndAt (typingOf n) (d .kept) (d .head) sheet h s st
@@ -246,14 +234,18 @@ module _ {i : ℕ} {sheet : Bytes} {b : Binds} {h : Seen} {s : Bytes} {st : St} 
       let l = last-is (d .kept) (z .whole) in
       record { ty = l .ty; at = rw (l .is) at (at-kept z) }
 
-  pub quiet-in : Missed 6 6 i → SomeEnd sheet b h s st y → SomeQuiet i sheet b h s st
-  quiet-in m d =
-      let e = rule-of nr (d .at) in
-      record { low = omega (arith, e, low-rule nr m (d .at)); typing = d .typing; kept = d .kept; head = d .head; env = d .env; rule-no = e; at = d .at; bound = d .bound }
+  pub element-in : i ≡ 2 → SomeEnd sheet b h s st y → SomeOne s st
+  element-in e d = let z = end-at 2 (omega arith) e d in record { ty = firstOf (d .kept); at = at-one z (z .whole) }
+
+  pub slice-in : i ≡ 3 → SomeEnd sheet b h s st y → SomeOne s st
+  slice-in e d = let z = end-at 3 (omega arith) e d in record { ty = firstOf (d .kept); at = at-one z (z .whole) }
+
+  pub list-in : i ≡ 4 → SomeEnd sheet b h s st y → SomeItems s st
+  list-in e d = let z = end-at 4 (omega arith) e d in record { element = itemOf (d .kept); at = rw (items-is (d .kept) (z .whole)) at (at-kept z) }
 
 -- ## What they ensure
 
-module _ {i : ℕ} {sheet : Bytes} {b : Binds} {h : Seen} {s s′ : Bytes} {st : St} {out out′ : Bytes} {y : Tally} {r : Ended} (nr : RuleNo i h) where
+module _ {i : ℕ} {sheet : Bytes} {b : Binds} {h : Seen} {s s′ : Bytes} {st : Accumulator} {out out′ : Bytes} {y : Tally} {r : Ended} (nr : RuleNo i h) where
   ends-by : (n : ℕ) → 0 < n → i ≡ n → ((k : Kept) (hd : Head) (env : Env) → EndAt (typingOf n) k hd sheet h s st → Ends (end (typingOf n) env hd k) s s′ out out′ y r)
       → EndedBy sheet b h s s′ st out out′ y r
   ends-by n p e f q k hd env d w = let z = typing-at q i n (rule-of nr d) e p in rw z (f k hd env (rw z at d))
@@ -347,11 +339,19 @@ quiet-tells casing env hd k l = absurd (omega arith)
 quiet-tells membership env hd k l = absurd (omega arith)
 quiet-tells comprehension env hd k l = absurd (omega arith)
 
-pub end-quiet : {i : ℕ} {sheet : Bytes} {b : Binds} {h : Seen} {s s′ : Bytes} {st : St} {out : Bytes} {y : Tally} {r : ℕ} → RuleNo i h → Missed 6 6 i → QuietBy i sheet b h s s′ st r
+-- whatever line it is, its rule has this number
+abbrev pub Ruled : ℕ → Bytes → Seen → Bytes → Accumulator → Type 0
+Ruled i sheet h s st = (q : Typing) (k : Kept) (hd : Head) → EndAt q k hd sheet h s st → i ≡ typingNo q
+
+pub by-rule : {i : ℕ} {sheet : Bytes} {h : Seen} {s : Bytes} {st : Accumulator} → RuleNo i h → Ruled i sheet h s st
+by-rule nr q k hd d = rule-of nr d
+
+pub settled : {i : ℕ} {sheet : Bytes} {b : Binds} {h : Seen} {s s′ : Bytes} {st : Accumulator} {out : Bytes} {y : Tally} {r : ℕ} → Ruled i sheet h s st → i < 6 → QuietBy i sheet b h s s′ st r
     → EndedBy sheet b h s s′ st out out y (Typed r y)
-end-quiet nr m f q k hd env d w =
-    let t = quiet-tells q env hd k (low-rule nr m d) in
-    let z = f q k hd env (rule-of nr d) d w (t .ty) (t .is) in
+settled nr l f q k hd env d w =
+    let e = nr q k hd d in
+    let t = quiet-tells q env hd k (omega (arith, e, l)) in
+    let z = f q k hd env e d w (t .ty) (t .is) in
     rw (t .is) (record { answer = (z .at, adds-none); long = z .long; as-long = refl })
 
 -- ## Their types
@@ -359,7 +359,7 @@ end-quiet nr m f q k hd env d w =
 told-same : {t u : Ty} → told t [] ≡ told u [] → t ≡ u
 told-same e = cc
 
-module _ {i : ℕ} {sheet : Bytes} {b : Binds} {h : Seen} {s s′ : Bytes} {st : St} {r : ℕ} where
+module _ {i : ℕ} {sheet : Bytes} {b : Binds} {h : Seen} {s s′ : Bytes} {st : Accumulator} {r : ℕ} where
   quiet-by : (n : ℕ) → 0 < n → i ≡ n → ((k : Kept) (hd : Head) (env : Env) → EndAt (typingOf n) k hd sheet h s st → EnvAs sheet b env → (t : Ty) → end (typingOf n) env hd k ≡ told t [] → Returned s s′ t r)
       → QuietBy i sheet b h s s′ st r
   quiet-by n p e f q k hd env g d w t x = let z = typing-at q i n g e p in f k hd env (rw z at d) w t (rw z at x)
@@ -382,16 +382,16 @@ module _ {i : ℕ} {sheet : Bytes} {b : Binds} {h : Seen} {s s′ : Bytes} {st :
       go membership g d x = absurd (omega arith)
       go comprehension g d x = absurd (omega arith)
 
-  pub quiet-variable : {m : ℕ} → i ≡ 1 → ((b′ : BindsAt sheet (b .from) (b .to)) → m ≡ bindKind (h .var .0) (b′ .heads)) → TypeAt s′ 0 r (kindType m) × (length s′ ≡ length s) → QuietBy i sheet b h s s′ st r
+  pub quiet-variable : i ≡ 1 → ((b′ : BindsAt sheet (b .from) (b .to)) → TypeAt s′ 0 r (kindType (bindKind (h .var .0) (b′ .heads)))) × (length s′ ≡ length s) → QuietBy i sheet b h s s′ st r
   unfolding end varTypeOf typingNo ruleNo
-  quiet-variable {m} e f a = quiet-by 1 (omega arith) e go
+  quiet-variable e a = quiet-by 1 (omega arith) e go
     where
       go : (k : Kept) (hd : Head) (env : Env) → EndAt varType k hd sheet h s st → EnvAs sheet b env → (t : Ty) → end varType env hd k ≡ told t [] → Returned s s′ t r
       go k hd env d w t x =
           let v = d .variable (var-word (hd .word) (ap ruleNo (d .ruled))) in
-          let n : m ≡ bindKind (variableOf hd) (w .binds .heads) = f (w .binds) ∙ ap (λ (i : ℕ). bindKind i (w .binds .heads)) (d .head .var) in
-          let u : kindType m ≡ t = ap kindType n ∙ (sym (w .same (variableOf hd)) ∙ (sym (ap (λ (o : Option ℕ). varTypeOf o env) v) ∙ told-same x)) in
-          record { at = subst (λ (z : Ty). TypeAt s′ 0 r z) u (a .0); long = a .1 }
+          let n : kindType (bindKind (h .var .0) (w .binds .heads)) ≡ kindType (bindKind (variableOf hd) (w .binds .heads)) = ap (λ (i : ℕ). kindType (bindKind i (w .binds .heads))) (d .head .var) in
+          let u : kindType (bindKind (h .var .0) (w .binds .heads)) ≡ t = n ∙ (sym (w .same (variableOf hd)) ∙ (sym (ap (λ (o : Option ℕ). varTypeOf o env) v) ∙ told-same x)) in
+          record { at = subst (λ (z : Ty). TypeAt s′ 0 r z) u (a .0 (w .binds)); long = a .1 }
 
   pub quiet-element : i ≡ 2 → (length s′ ≡ length s) × ((t : Ty) → KeptAt (kept t) s st → TypeAt s′ 0 r (elementOf t)) → QuietBy i sheet b h s s′ st r
   unfolding end
@@ -408,36 +408,21 @@ module _ {i : ℕ} {sheet : Bytes} {b : Binds} {h : Seen} {s s′ : Bytes} {st :
       go : (k : Kept) (hd : Head) (env : Env) → EndAt listing k hd sheet h s st → EnvAs sheet b env → (t : Ty) → end listing env hd k ≡ told t [] → Returned s s′ t r
       go k hd env d w t x = let o = items-is k (d .whole) in record { at = a .1 (itemOf k) (rw o at (at-kept d)) t (rw o at x); long = a .0 }
 
-map-at : {s : Bytes} {st : St} (fs : Fields) → KeptAt (entries fs) s st → TypeAt s 0 (st .len) (tMap fs)
+map-at : {s : Bytes} {st : Accumulator} (fs : Fields) → KeptAt (entries fs) s st → TypeAt s 0 (st .len) (tMap fs)
 unfolding textOf place
 map-at {s} {st} fs k =
     let e = k .state .len in
     let f = k .state .front in
     record { ordered = omega arith; inside = omega (arith, e, ap length f, length-take (length (line (tMap fs))) s); is = ap (λ (m : ℕ). take m s) e ∙ f }
 
-pub quiet-map : {i : ℕ} {sheet : Bytes} {b : Binds} {h : Seen} {s : Bytes} {st : St} → i < 6 → Missed 0 5 i → QuietBy i sheet b h s s st (st .len)
+pub quiet-map : {i : ℕ} {sheet : Bytes} {b : Binds} {h : Seen} {s : Bytes} {st : Accumulator} → i ≡ 5 → QuietBy i sheet b h s s st (st .len)
 unfolding end endMap
-quiet-map {i} {sheet} {b} {h} {s} {st} l m = quiet-by 5 (omega arith) (omega (arith, missed-out 0 5 i m (omega arith))) go
+quiet-map {i} {sheet} {b} {h} {s} {st} e = quiet-by 5 (omega arith) e go
   where
     go : (k : Kept) (hd : Head) (env : Env) → EndAt mapping k hd sheet h s st → EnvAs sheet b env → (t : Ty) → end mapping env hd k ≡ told t [] → Returned s s t (st .len)
     go k hd env d w t x =
         let e = entries-is k (d .whole) in
         record { at = subst (λ (z : Ty). TypeAt s 0 (st .len) z) (told-same (rw e at x)) (map-at (mapOf k) (rw e at (at-kept d))); long = refl }
-
--- ## What they ask for
-
-module _ {i : ℕ} {sheet : Bytes} {b : Binds} {h : Seen} {s : Bytes} {st : St} (d : SomeQuiet i sheet b h s st) where
-  quiet-at : (n : ℕ) → 0 < n → i ≡ n → EndAt (typingOf n) (d .kept) (d .head) sheet h s st
-  quiet-at n p e = rw (typing-at (d .typing) i n (d .rule-no) e p) at (d .at)
-
-  pub element-in : i ≡ 2 → SomeOne s st
-  element-in e = let z = quiet-at 2 (omega arith) e in record { ty = firstOf (d .kept); at = at-one z (z .whole) }
-
-  pub slice-in : i ≡ 3 → SomeOne s st
-  slice-in e = let z = quiet-at 3 (omega arith) e in record { ty = firstOf (d .kept); at = at-one z (z .whole) }
-
-  pub list-in : i ≡ 4 → SomeItems s st
-  list-in e = let z = quiet-at 4 (omega arith) e in record { element = itemOf (d .kept); at = rw (items-is (d .kept) (z .whole)) at (at-kept z) }
 
 -- ## A line that names a variable has one
 

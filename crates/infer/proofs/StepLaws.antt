@@ -18,7 +18,7 @@ use Rattle.report.specs.Report.{Adds}
 use Rattle.report.specs.declared.Tally.{Tally}
 use Rattle.report.proofs.ReportLaws.{adds-none}
 use Rattle.exprs.specs.State.{StAs, FineKept, ChildAt, LastChild, FirstForm, Keeps, SomeItem, ItemKept, SomeEntry, EntryKept, SomeArm}
-use Rattle.exprs.specs.declared.state.St.{St}
+use Rattle.exprs.specs.declared.state.Accumulator.{Accumulator}
 use Rattle.exprs.specs.declared.state.Keep.{Keep}
 use Rattle.exprs.specs.declared.state.Keep.the-variants.{On, Large}
 use Rattle.exprs.proofs.FineLaws.{FineSome, start-fine, child-fine, child-last}
@@ -52,7 +52,7 @@ typing-at q i n e f h = typing-is q (omega arith) ∙ ap typingOf (sym e ∙ f)
 
 -- ## Before the first child
 
-module _ {s : Bytes} {r : St} (q : Typing) (i : ℕ) (e : i ≡ typingNo q) where
+module _ {s : Bytes} {r : Accumulator} (q : Typing) (i : ℕ) (e : i ≡ typingNo q) where
   started : (k : Kept) → start q ≡ k → StAs k s r → StAs (start q) s r × FineKept (start q)
   started k z a = (rw z a, start-fine q)
 
@@ -87,46 +87,46 @@ nothing-first casing i e a b c d = absurd (c e)
 nothing-first membership i e a b c d = refl
 nothing-first comprehension i e a b c d = absurd (d e)
 
-pub start-empty : {s : Bytes} {r : St} (q : Typing) (i : ℕ) → i ≡ typingNo q → (i ≡ 4 → ⊥) → (i ≡ 5 → ⊥) → (i ≡ 9 → ⊥) → (i ≡ 11 → ⊥) → StAs empty s r → StAs (start q) s r × FineKept (start q)
+pub start-empty : {s : Bytes} {r : Accumulator} (q : Typing) (i : ℕ) → i ≡ typingNo q → (i ≡ 4 → ⊥) → (i ≡ 5 → ⊥) → (i ≡ 9 → ⊥) → (i ≡ 11 → ⊥) → StAs empty s r → StAs (start q) s r × FineKept (start q)
 start-empty q i e a b c d z = (rw (nothing-first q i e a b c d) z, start-fine q)
 
 -- ## What is kept, by the number of the rule
 
 -- the first child's type stays
-abbrev FirstKept : St → ℕ → St → Type 0
+abbrev FirstKept : Accumulator → ℕ → Accumulator → Type 0
 FirstKept st n b = (s : Bytes) (k : Kept) (t : Ty) → FirstForm k → ChildAt k t s st n → StAs (keepFirst k t) s b
 
-module _ {i r : ℕ} {s : Bytes} {st : St} {n : ℕ} {x : Bytes} where
+module _ {i r : ℕ} {s : Bytes} {st : Accumulator} {n : ℕ} {x : Bytes} where
   -- the rule of this number is q′
   keeps-by : {s′ : Bytes} {a : Keep} (q′ : Typing) → ((q : Typing) → i ≡ typingNo q → q ≡ q′)
       → ((p : Role) (k : Kept) (t : Ty) (m : Bytes) → r ≡ roleNo p → StepAt q′ p k t m s st n x → Keeps (child q′ p k m t) s s′ a) → KeptBy i r s s′ st n x a
   keeps-by q′ u f q p k t m g h d = rw (u q g) (f p k t m h (rw (u q g) at d))
 
-  pub keep-element : {b : St} → i ≡ 2 → FirstKept st n b → KeptBy i r s s st n x (On b)
+  pub keep-element : {b : Accumulator} → i ≡ 2 → FirstKept st n b → KeptBy i r s s st n x (On b)
   unfolding child
   keep-element e f = keeps-by element (λ q g. typing-at q i 2 g e (omega arith)) (λ p k t m h d. record { kept = f s k t (d .before) (d .at); long = refl })
 
-  pub keep-slice : {b : St} → i ≡ 3 → FirstKept st n b → KeptBy i r s s st n x (On b)
+  pub keep-slice : {b : Accumulator} → i ≡ 3 → FirstKept st n b → KeptBy i r s s st n x (On b)
   unfolding child
   keep-slice e f = keeps-by slicing (λ q g. typing-at q i 3 g e (omega arith)) (λ p k t m h d. record { kept = f s k t (d .before) (d .at); long = refl })
 
-  pub keep-call : {b : St} → i ≡ 6 → FirstKept st n b → KeptBy i r s s st n x (On b)
+  pub keep-call : {b : Accumulator} → i ≡ 6 → FirstKept st n b → KeptBy i r s s st n x (On b)
   unfolding child
   keep-call e f = keeps-by calling (λ q g. typing-at q i 6 g e (omega arith)) (λ p k t m h d. record { kept = f s k t (d .before) (d .at); long = refl })
 
-  pub keep-unary : {b : St} → i ≡ 8 → FirstKept st n b → KeptBy i r s s st n x (On b)
+  pub keep-unary : {b : Accumulator} → i ≡ 8 → FirstKept st n b → KeptBy i r s s st n x (On b)
   unfolding child
   keep-unary e f = keeps-by unary (λ q g. typing-at q i 8 g e (omega arith)) (λ p k t m h d. record { kept = f s k t (d .before) (d .at); long = refl })
 
-  pub keep-operator : {b : St} → i ≡ 7 → TwoKept st n b → KeptBy i r s s st n x (On b)
+  pub keep-operator : {b : Accumulator} → i ≡ 7 → TwoKept st n b → KeptBy i r s s st n x (On b)
   unfolding child
   keep-operator e f = keeps-by operator (λ q g. typing-at q i 7 g e (omega arith)) (λ p k t m h d. record { kept = f s k t (d .before) (d .at); long = refl })
 
-  pub keep-membership : {b : St} → i ≡ 10 → TwoKept st n b → KeptBy i r s s st n x (On b)
+  pub keep-membership : {b : Accumulator} → i ≡ 10 → TwoKept st n b → KeptBy i r s s st n x (On b)
   unfolding child
   keep-membership e f = keeps-by membership (λ q g. typing-at q i 10 g e (omega arith)) (λ p k t m h d. record { kept = f s k t (d .before) (d .at); long = refl })
 
-  pub keep-last : {b : St} → i ≡ 11 → ((s : Bytes) (t : Ty) → LastChild t s st n → StAs (last (some t)) s b) → KeptBy i r s s st n x (On b)
+  pub keep-last : {b : Accumulator} → i ≡ 11 → ((s : Bytes) (t : Ty) → LastChild t s st n → StAs (last (some t)) s b) → KeptBy i r s s st n x (On b)
   unfolding child
   keep-last e f = keeps-by comprehension (λ q g. typing-at q i 11 g e (omega arith)) (λ p k t m h d. record { kept = f s t (go k t (d .before) (d .at)); long = refl })
     where
@@ -140,7 +140,7 @@ module _ {i r : ℕ} {s : Bytes} {st : St} {n : ℕ} {x : Bytes} where
       go (entries fs) t g c = absurd g
       go (arms ms) t g c = absurd g
 
-  pub keep-answer : {s′ : Bytes} {b : St} → i ≡ 9 → AnswerKept r s s′ st n b → KeptBy i r s s′ st n x (On b)
+  pub keep-answer : {s′ : Bytes} {b : Accumulator} → i ≡ 9 → AnswerKept r s s′ st n b → KeptBy i r s s′ st n x (On b)
   unfolding child
   keep-answer e a = keeps-by casing (λ q g. typing-at q i 9 g e (omega arith)) (λ p k t m h d. record { kept = a .kept p k t h (d .before) (d .at); long = a .long })
 
@@ -251,13 +251,13 @@ ask-none e (inner q) t g h = adds-none
 
 -- ## After a child
 
-pub child-first : {i r : ℕ} {s : Bytes} {st : St} {n : ℕ} {x : Bytes} → SomeStep i r s st n x → st .len < length s
+pub child-first : {i r : ℕ} {s : Bytes} {st : Accumulator} {n : ℕ} {x : Bytes} → SomeStep i r s st n x → st .len < length s
 child-first d = let c = d .at .at .child in omega (arith, two-at _ _ _ _ c, c .inside)
 
-pub child-kind : {i r : ℕ} {s : Bytes} {st : St} {n : ℕ} {x : Bytes} → SomeStep i r s st n x → SomeKind (getD s (st .len) 0)
+pub child-kind : {i r : ℕ} {s : Bytes} {st : Accumulator} {n : ℕ} {x : Bytes} → SomeStep i r s st n x → SomeKind (getD s (st .len) 0)
 child-kind d = record { ty = d .ty; is = sym (kind-at _ _ _ _ (d .at .at .child)) }
 
-module _ {i r : ℕ} {s s′ : Bytes} {st : St} {n : ℕ} {x out out′ : Bytes} {y z : Tally} {a : Keep} (f : KeptBy i r s s′ st n x a) (g : AskedBy r (getD s (st .len) 0) out out′ y z)
+module _ {i r : ℕ} {s s′ : Bytes} {st : Accumulator} {n : ℕ} {x out out′ : Bytes} {y z : Tally} {a : Keep} (f : KeptBy i r s s′ st n x a) (g : AskedBy r (getD s (st .len) 0) out out′ y z)
     (q : Typing) (p : Role) (k : Kept) (t : Ty) (m : Bytes) (e : i ≡ typingNo q) (h : r ≡ roleNo p) (d : StepAt q p k t m s st n x) where
   adds : Adds (asked p t) out out′ y z
   adds = g p t h (sym (kind-at _ _ _ _ (d .at .child)))
@@ -265,7 +265,7 @@ module _ {i r : ℕ} {s s′ : Bytes} {st : St} {n : ℕ} {x out out′ : Bytes}
   as-long : length out′ ≡ length out
   as-long = ap length (adds .text) ∙ simp length-sets
 
-  pub step-on : {b : St} → a ≡ On b → Steps (child q p k m t) p t s s′ out out′ y (Next b z)
+  pub step-on : {b : Accumulator} → a ≡ On b → Steps (child q p k m t) p t s s′ out out′ y (Next b z)
   step-on {b} w = go (child q p k m t) (rw w at (f q p k t m e h d)) (child-fine q p k m t (d .at .fine) (d .at .good))
     where
       go : (o : Option Kept) → Keeps o s s′ (On b) → FineSome o → Steps o p t s s′ out out′ y (Next b z)

@@ -18,7 +18,7 @@ use Rattle.hir.proofs.PlaceLaws.{classOf, class-is}
 use Rattle.report.specs.declared.Tally.{Tally}
 use Rattle.walk_run.specs.Run.{start}
 use Rattle.exprs.specs.State.{StAs, FineKept}
-use Rattle.exprs.specs.declared.state.St.{St}
+use Rattle.exprs.specs.declared.state.Accumulator.{Accumulator}
 use Rattle.exprs.specs.End.{Countable}
 use Rattle.exprs.specs.declared.state.Ended.{Ended}
 use Rattle.exprs.specs.Rules.{typingNo, ruleNo, roleNo}
@@ -45,7 +45,7 @@ RuleAs h r = (v : Word) → h .word ≡ wordNo v → r ≡ ruleNo (row v .rule)
 abbrev pub RoleAs : Seen → ℕ → ℕ → Type 0
 RoleAs h j r = (s : Bytes) (hd : Head) → HeadIs s h hd → j < arity hd → r ≡ roleNo (getD (roles hd) j plain)
 
-abbrev pub StartAs : ℕ → Bytes → Bytes → St → Type 0
+abbrev pub StartAs : ℕ → Bytes → Bytes → Accumulator → Type 0
 StartAs rl workE work st = (length work ≡ length workE) × ((q : Typing) → rl ≡ typingNo q → StAs (start q) work st × FineKept (start q))
 
 abbrev pub Past : Cur → ℕ → ℕ → Type 0
@@ -53,7 +53,7 @@ Past c next line = (c .at ≡ next) × (c .line .0 ≡ line + 1)
 
 -- ## `infer_expr`
 
-pub record InferInv (s : Bytes) (b : Binds) (h : Seen) (depth : ℕ) (work₀ out₀ : Bytes) (here : HirId) (y₀ : Tally) (work out : Bytes) (c : Cur) (y : Tally) (st : St) (j : ℕ) : Type 0 where
+pub record InferInv (s : Bytes) (b : Binds) (h : Seen) (depth : ℕ) (work₀ out₀ : Bytes) (here : HirId) (y₀ : Tally) (work out : Bytes) (c : Cur) (y : Tally) (st : Accumulator) (j : ℕ) : Type 0 where
   pub all : (hd : Head) (hs ks : List Head) (env : Env) → Base s h (here .0) depth hd hs ks → EnvAs s b env → Loop s depth (here .0) hd hs ks env out₀ y₀ work out c y st j
   pub long : length work ≡ length work₀
   pub as-long : length out ≡ length out₀
@@ -71,7 +71,7 @@ module _ {s : Bytes} {b : Binds} {h : Seen} {cur : Cur} {depth : ℕ} {workE : B
   pub infer-pos : 1 ≤ depth
   infer-pos = base-pos (expr-base (x .at))
 
-  pub infer-start : {out work : Bytes} {c : Cur} {st : St} {rl : ℕ} → Past c (h .next) (cur .line .0) → RuleAs h rl → StartAs rl workE work st
+  pub infer-start : {out work : Bytes} {c : Cur} {st : Accumulator} {rl : ℕ} → Past c (h .next) (cur .line .0) → RuleAs h rl → StartAs rl workE work st
       → InferInv s b h depth work out (cur .line) y₀ work out c y₀ st 0
   infer-start {out} {work} {c} {st} {rl} p r a =
       record {
@@ -80,7 +80,7 @@ module _ {s : Bytes} {b : Binds} {h : Seen} {cur : Cur} {depth : ℕ} {workE : B
         as-long = refl;
       }
 
-  module _ {work₀ out₀ work out : Bytes} {c : Cur} {y : Tally} {st : St} {j : ℕ} (i : InferInv s b h depth work₀ out₀ (cur .line) y₀ work out c y st j) (l₀ : length work₀ ≡ length workE) where
+  module _ {work₀ out₀ work out : Bytes} {c : Cur} {y : Tally} {st : Accumulator} {j : ℕ} (i : InferInv s b h depth work₀ out₀ (cur .line) y₀ work out c y st j) (l₀ : length work₀ ≡ length workE) where
     infer-loop : Loop s depth (cur .line .0) (x .at .tree .head) (x .at .tree .under) (x .at .tree .rest) (x .env) out₀ y₀ work out c y st j
     infer-loop = i .all (x .at .tree .head) (x .at .tree .under) (x .at .tree .rest) (x .env) (expr-base (x .at)) (x .bound)
 
@@ -121,7 +121,7 @@ module _ {s : Bytes} {b : Binds} {h : Seen} {cur : Cur} {depth : ℕ} {workE : B
                 let B = expr-base ζ in
                 stopped-walked m (child-large B u (i .all (ζ .tree .head) (ζ .tree .under) (ζ .tree .rest) env B u) infer-room hung more k read W m e) infer-back infer-out
 
-            module _ {len : ℕ} {c′ : Cur} {z : Tally} (e : a ≡ Done len c′ z) {st′ : St} (held : Held st st′) {p : ℕ} (spelt : SpeltAs (k .name) (k .stop) p)
+            module _ {len : ℕ} {c′ : Cur} {z : Tally} (e : a ≡ Done len c′ z) {st′ : Accumulator} (held : Held st st′) {p : ℕ} (spelt : SpeltAs (k .name) (k .stop) p)
                 {rl ro : ℕ} (ruled : RuleAs h rl) (played : RoleAs h j ro) where
               ruled-as : {hd : Head} {hs ks : List Head} → Base s h (cur .line .0) depth hd hs ks → rl ≡ typingNo (typingOf (rule hd))
               ruled-as {hd} B = rule-number hd (typingOf (rule hd)) rl (base-typed B) (ruled (hd .word) (B .is .word))
@@ -152,7 +152,7 @@ module _ {s : Bytes} {b : Binds} {h : Seen} {cur : Cur} {depth : ℕ} {workE : B
                     (played s (ζ .tree .head) (B .is) (less B u L infer-room hung more)) S f)
                     (infer-after .0 ∙ i .long ∙ l₀) (infer-after .1)
 
-                pub infer-on : {st″ : St} {y″ : Tally} → d ≡ On st″ y″ → InferInv s b h depth work₀ out₀ (cur .line) y₀ work″ out″ c′ y″ st″ (j + 1)
+                pub infer-on : {st″ : Accumulator} {y″ : Tally} → d ≡ On st″ y″ → InferInv s b h depth work₀ out₀ (cur .line) y₀ work″ out″ c′ y″ st″ (j + 1)
                 infer-on f =
                     record {
                       all = λ hd hs ks env B u. let L = i .all hd hs ks env B u in

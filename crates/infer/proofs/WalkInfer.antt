@@ -30,7 +30,7 @@ use Rattle.report.specs.Report.{Adds}
 use Rattle.report.specs.declared.Tally.{Tally}
 use Rattle.walk_run.specs.Run.{Kept, empty, over, kept, both, items, last, entries, arms, start, child, end, Told, told, tooMuch, stopped, passed, after, kids, Ran, halted, typed, concluded, judged}
 use Rattle.exprs.specs.State.{behind as behindOf, StAs, Fine, FineKept}
-use Rattle.exprs.specs.declared.state.St.{St}
+use Rattle.exprs.specs.declared.state.Accumulator.{Accumulator}
 use Rattle.exprs.specs.Rules.{typingNo, roleNo}
 use Rattle.infer.specs.Steps.{Before, StepAt, SomeStep, SteppedAs, Steps, SteppedBy, EnvAs, EndAt, SomeEnd, EndedBy, SpeltAs}
 use Rattle.infer.specs.declared.step.Stepped.{Stepped}
@@ -49,14 +49,14 @@ use Rattle.infer.proofs.WalkTurn.{DoneAs, walked-done, walked-large, ro
 
 -- ## The step after a child
 
-pub record SteppedOn (o : Option Kept) (s : Bytes) (A : Tally → Type 0) (st : St) (y : Tally) : Type 0 where
+pub record SteppedOn (o : Option Kept) (s : Bytes) (A : Tally → Type 0) (st : Accumulator) (y : Tally) : Type 0 where
   pub kept : Kept
   pub same : o ≡ some kept
   pub state : StAs kept s st
   pub fine : FineKept kept
   pub adds : A y
 
-stepped-on : (o : Option Kept) (s : Bytes) (A : Tally → Type 0) (a : Stepped) (st : St) (y : Tally) → SteppedAs o s A a → a ≡ On st y → SteppedOn o s A st y
+stepped-on : (o : Option Kept) (s : Bytes) (A : Tally → Type 0) (a : Stepped) (st : Accumulator) (y : Tally) → SteppedAs o s A a → a ≡ On st y → SteppedOn o s A st y
 stepped-on none s A a st y x e = absurd (subst (SteppedAs none s A) e x)
 stepped-on (some k) s A a st y x e = let z = subst (SteppedAs (some k) s A) e x in record { kept = k; same = refl; state = z .0; fine = z .1; adds = z .2 }
 
@@ -86,11 +86,11 @@ Lent work k = take (length work - k) (drop k work)
 abbrev pub Back : Bytes → ℕ → Bytes → Bytes
 Back work k ys = take k work ++ (ys ++ drop (length work - k) (drop k work))
 
-abbrev pub Held : St → St → Type 0
+abbrev pub Held : Accumulator → Accumulator → Type 0
 Held st st′ = (st′ .len ≡ st .len) × (st′ .second ≡ 0) × (st′ .over ≡ st .over)
 
 module _ {s : Bytes} {b : Binds} {h : Seen} {here depth : ℕ} {hd : Head} {hs ks : List Head} (B : Base s h here depth hd hs ks)
-    {env : Env} (u : EnvAs s b env) {out₀ : Bytes} {y₀ : Tally} {work out : Bytes} {c : Cur} {y : Tally} {st : St} {j : ℕ}
+    {env : Env} (u : EnvAs s b env) {out₀ : Bytes} {y₀ : Tally} {work out : Bytes} {c : Cur} {y : Tally} {st : Accumulator} {j : ℕ}
     (L : Loop s depth here hd hs ks env out₀ y₀ work out c y st j) (room : 1024 * (depth + 40) ≤ length work) where
   -- the line is through with its children
   abbrev qq : Typing
@@ -151,7 +151,7 @@ module _ {s : Bytes} {b : Binds} {h : Seen} {here depth : ℕ} {hd : Head} {hs k
             pub child-countable : Counting y₀ (suc (length hs)) → Countable z
             child-countable n = turn-countable B L less out′ z (child-done .adds) n
 
-            module _ {st′ : St} (held : Held st st′) {x : Bytes} (spelt : x ≡ map hex (turn-first B L less .head .name)) where
+            module _ {st′ : Accumulator} (held : Held st st′) {x : Bytes} (spelt : x ≡ map hex (turn-first B L less .head .name)) where
               before-child : Before qq (L .kept)
               unfolding arity
               before-child = form-before qq (length (roles hd)) j (roles hd) (L .kept) kids-known refl less (L .form)
@@ -200,7 +200,7 @@ module _ {s : Bytes} {b : Binds} {h : Seen} {here depth : ℕ} {hd : Head} {hs k
                   pub step-large : d ≡ Large → judged (resultOf env here hd hs) ≡ halted here
                   step-large f = turn-large B L less (child-done .none) (sym step-same ∙ stepped-large _ work″ _ d (steps .answer) f)
 
-                  pub step-on : {st″ : St} {y″ : Tally} → d ≡ On st″ y″ → Loop s depth here hd hs ks env out₀ y₀ work″ out″ c′ y″ st″ (j + 1)
+                  pub step-on : {st″ : Accumulator} {y″ : Tally} → d ≡ On st″ y″ → Loop s depth here hd hs ks env out₀ y₀ work″ out″ c′ y″ st″ (j + 1)
                   step-on {st″} {y″} f =
                       let o = stepped-on _ work″ _ d st″ y″ (steps .answer) f in
                       subst (λ (n : ℕ). Loop s depth here hd hs ks env out₀ y₀ work″ out″ c′ y″ st″ n) (sym (add-one j))

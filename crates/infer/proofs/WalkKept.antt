@@ -26,7 +26,7 @@ use Rattle.walk_run.specs.Run.{Kept, empty, over, kept, both, items, last, entr
 use Rattle.walk_run.proofs.Levels.{Low}
 use Rattle.walk_run.proofs.LevelsUnify.{LowAnswer, unify-low}
 use Rattle.exprs.specs.State.{listText, textOf, place, behind, full, StAs, Fine, FineKept}
-use Rattle.exprs.specs.declared.state.St.{St}
+use Rattle.exprs.specs.declared.state.Accumulator.{Accumulator}
 use Rattle.infer.specs.Steps.{Nothing, AtMostOne, One, Two, Items, Lasts, LastOne, Entries, Arms, Before, Whole}
 use Rattle.infer.proofs.WalkTable.{KidsOf}
 
@@ -613,7 +613,7 @@ front-stays : (x s ys : Bytes) (m : ℕ) → m ≡ length x → m ≤ length s �
 front-stays x s ys m e l f =
     take-append-le (length x) (take m s) ys (omega (arith, length-take-le m s l)) ∙ take-take (length x) m s (omega arith) ∙ f
 
-pub leaves : (q : Typing) (k : Kept) (s ys : Bytes) (st st′ : St) → Before q k → StAs k s st → st .len ≤ length s → (st′ .len ≡ st .len) × (st′ .second ≡ 0) × (st′ .over ≡ st .over)
+pub leaves : (q : Typing) (k : Kept) (s ys : Bytes) (st st′ : Accumulator) → Before q k → StAs k s st → st .len ≤ length s → (st′ .len ≡ st .len) × (st′ .second ≡ 0) × (st′ .over ≡ st .over)
     → StAs (weak k) (take (st .len) s ++ ys) st′
 unfolding textOf place behind full
 leaves q k s ys st st′ b a l h = go (how q k b)

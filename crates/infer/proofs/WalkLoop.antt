@@ -21,7 +21,7 @@ use Rattle.walk_run.specs.Depth.{levels}
 use Rattle.walk_run.proofs.Fine.{walk-fine}
 use Rattle.walk_run.proofs.Theorem.{step-run}
 use Rattle.exprs.specs.State.{StAs, FineKept}
-use Rattle.exprs.specs.declared.state.St.{St}
+use Rattle.exprs.specs.declared.state.Accumulator.{Accumulator}
 use Rattle.bounds.proofs.Heights.{depth-fits, children-low}
 use Rattle.infer.specs.Walks.{resultOf, ExprAt}
 use Rattle.infer.specs.declared.walk.Cur.{Cur}
@@ -107,7 +107,7 @@ module _ {s : Bytes} {h : Seen} {here depth : ℕ} {hd : Head} {hs ks : List Hea
 abbrev left : List Role → Env → ℕ → List Head → List Res
 left ps env n hs = take (length ps) (walk env n hs)
 
-pub record Loop (s : Bytes) (depth here : ℕ) (hd : Head) (hs ks : List Head) (env : Env) (out₀ : Bytes) (y₀ : Tally) (work out : Bytes) (c : Cur) (y : Tally) (st : St) (j : ℕ) : Type 0 where
+pub record Loop (s : Bytes) (depth here : ℕ) (hd : Head) (hs ks : List Head) (env : Env) (out₀ : Bytes) (y₀ : Tally) (work out : Bytes) (c : Cur) (y : Tally) (st : Accumulator) (j : ℕ) : Type 0 where
   pub heads : List Head
   pub kept : Kept
   pub faults : List Fault
@@ -128,7 +128,7 @@ pub record Loop (s : Bytes) (depth here : ℕ) (hd : Head) (hs ks : List Head) (
   pub text : length (faultsText faults) + 2048 * length heads ≤ 2048 * length hs
   pub few : length faults + 2048 * length heads ≤ 2048 * length hs
 
-pub loop-start : {s : Bytes} {h : Seen} {here depth : ℕ} {hd : Head} {hs ks : List Head} → Base s h here depth hd hs ks → (env : Env) (out work : Bytes) (y : Tally) (c : Cur) (st : St)
+pub loop-start : {s : Bytes} {h : Seen} {here depth : ℕ} {hd : Head} {hs ks : List Head} → Base s h here depth hd hs ks → (env : Env) (out work : Bytes) (y : Tally) (c : Cur) (st : Accumulator)
     → (c .at ≡ h .next) × (c .line .0 ≡ here + 1) → StAs (start (typingOf (rule hd))) work st × FineKept (start (typingOf (rule hd)))
     → Loop s depth here hd hs ks env out y work out c y st 0
 unfolding arity faultsText

@@ -28,7 +28,7 @@ use Rattle.walk_run.specs.Depth.{levels}
 use Rattle.walk_run.proofs.Fine.{FineRes, walk-fine}
 use Rattle.walk_run.proofs.Silent.{entering-run}
 use Rattle.exprs.specs.State.{StAs, Fine, FineKept}
-use Rattle.exprs.specs.declared.state.St.{St}
+use Rattle.exprs.specs.declared.state.Accumulator.{Accumulator}
 use Rattle.bounds.proofs.Growth.{tree-faults, asked-few}
 use Rattle.infer.specs.Steps.{EnvAs}
 use Rattle.infer.specs.declared.step.Env.{Env as Binds}
@@ -138,7 +138,7 @@ abbrev pub roleAt : Head → ℕ → Role
 roleAt hd j = getD (roles hd) j plain
 
 module _ {s : Bytes} {h : Seen} {here depth : ℕ} {hd : Head} {hs ks : List Head} (B : Base s h here depth hd hs ks)
-    {env : Env} {out₀ : Bytes} {y₀ : Tally} {work out : Bytes} {c : Cur} {y : Tally} {st : St} {j : ℕ} (L : Loop s depth here hd hs ks env out₀ y₀ work out c y st j) where
+    {env : Env} {out₀ : Bytes} {y₀ : Tally} {work out : Bytes} {c : Cur} {y : Tally} {st : Accumulator} {j : ℕ} (L : Loop s depth here hd hs ks env out₀ y₀ work out c y st j) where
   pub loop-inside : c .at ≤ length s
   loop-inside = lines-in (L .lines)
 
@@ -255,7 +255,7 @@ module _ {s : Bytes} {h : Seen} {here depth : ℕ} {hd : Head} {hs ks : List Hea
         sym (ap (λ (x : List Res). step env n f x .name) (o .1) ∙ entering-run env n f k (o .0) .0)
 
     -- a child more is kept
-    pub turn-on : (i : Kept) (c′ : Cur) (y′ y″ : Tally) (out′ out″ work″ : Bytes) (st″ : St) → firstLarge (turnRes .tests) ≡ none
+    pub turn-on : (i : Kept) (c′ : Cur) (y′ y″ : Tally) (out′ out″ work″ : Bytes) (st″ : Accumulator) → firstLarge (turnRes .tests) ≡ none
         → Behind env s (c .line .0) (turn-first .head) (turn-first .under) (turn-first .behind) c′
         → Adds (turnRes .faults) out out′ y y′ → Adds (asked (roleAt hd j) (turnRes .ty)) out′ out″ y′ y″
         → child (typingOf (rule hd)) (roleAt hd j) (L .kept) (turnRes .name) (turnRes .ty) ≡ some i

@@ -2,7 +2,7 @@
 use mathlib.Core.Path.{_≡_}
 use mathlib.Core.List.{[], map}
 use mathlib.Core.Option.{Option, none, some}
-use Prim.Native.Nat.{ℕ, _+_, _*_, _<_, _≤_}
+use Prim.Native.Nat.{ℕ, _+_, _*_, _≤_}
 use lib.ListN.{length}
 use lib.Seq.{slice}
 use Rattle.semantics.specs.Limits.{typeLimit}
@@ -21,7 +21,7 @@ use Rattle.walk_run.specs.Run.{Kept, empty, over, kept, both, items, last, entr
 use Rattle.report.specs.Report.{Adds}
 use Rattle.report.specs.declared.Tally.{Tally}
 use Rattle.exprs.specs.State.{StAs, FineKept, ChildAt, FirstForm, ArmForm, ItemRoom, Keeps}
-use Rattle.exprs.specs.declared.state.St.{St}
+use Rattle.exprs.specs.declared.state.Accumulator.{Accumulator}
 use Rattle.exprs.specs.declared.state.Keep.{Keep}
 use Rattle.exprs.specs.Rules.{typingNo, roleNo}
 use Rattle.exprs.specs.End.{Ends, Countable}
@@ -176,14 +176,14 @@ ChildRoom membership k t s e = Unit {0}
 ChildRoom comprehension k t s e = Unit {0}
 
 -- a child's type behind what is kept, by a rule, a role, and the name that an entry's line spells
-pub record StepAt (q : Typing) (p : Role) (k : Kept) (t : Ty) (m : Bytes) (s : Bytes) (st : St) (n : ℕ) (x : Bytes) : Type 0 where
+pub record StepAt (q : Typing) (p : Role) (k : Kept) (t : Ty) (m : Bytes) (s : Bytes) (st : Accumulator) (n : ℕ) (x : Bytes) : Type 0 where
   pub before : Before q k
   pub at : ChildAt k t s st n
   pub room : ChildRoom q k t s (st .len + n)
   pub wide : typeLimit ≤ length s
   pub spelt : x ≡ map hex m
 
-pub record SomeStep (i r : ℕ) (s : Bytes) (st : St) (n : ℕ) (x : Bytes) : Type 0 where
+pub record SomeStep (i r : ℕ) (s : Bytes) (st : Accumulator) (n : ℕ) (x : Bytes) : Type 0 where
   pub typing : Typing
   pub role : Role
   pub kept : Kept
@@ -193,7 +193,7 @@ pub record SomeStep (i r : ℕ) (s : Bytes) (st : St) (n : ℕ) (x : Bytes) : Ty
   pub role-no : r ≡ roleNo role
   pub at : StepAt typing role kept ty name s st n x
 
-abbrev pub KeptBy : ℕ → ℕ → Bytes → Bytes → St → ℕ → Bytes → Keep → Type 0
+abbrev pub KeptBy : ℕ → ℕ → Bytes → Bytes → Accumulator → ℕ → Bytes → Keep → Type 0
 KeptBy i r s s′ st n x a = (q : Typing) (p : Role) (k : Kept) (t : Ty) (m : Bytes) → i ≡ typingNo q → r ≡ roleNo p → StepAt q p k t m s st n x → Keeps (child q p k m t) s s′ a
 
 -- what a child's type is asked for
@@ -211,7 +211,7 @@ pub record Steps (k : Option Kept) (p : Role) (t : Ty) (s s′ out out′ : Byte
   pub long : length s′ ≡ length s
   pub as-long : length out′ ≡ length out
 
-abbrev pub SteppedBy : ℕ → ℕ → Bytes → Bytes → St → ℕ → Bytes → Bytes → Bytes → Tally → Stepped → Type 0
+abbrev pub SteppedBy : ℕ → ℕ → Bytes → Bytes → Accumulator → ℕ → Bytes → Bytes → Bytes → Tally → Stepped → Type 0
 SteppedBy i r s s′ st n x out out′ y a =
     (q : Typing) (p : Role) (k : Kept) (t : Ty) (m : Bytes) → i ≡ typingNo q → r ≡ roleNo p → StepAt q p k t m s st n x → Steps (child q p k m t) p t s s′ out out′ y a
 
@@ -233,7 +233,7 @@ RoomOf (entries fs) s e = Unit {0}
 RoomOf (arms ms) s e = Unit {0}
 
 -- what a line keeps after its last child
-pub record EndAt (q : Typing) (k : Kept) (hd : Head) (sheet : Bytes) (h : Seen) (s : Bytes) (st : St) : Type 0 where
+pub record EndAt (q : Typing) (k : Kept) (hd : Head) (sheet : Bytes) (h : Seen) (s : Bytes) (st : Accumulator) : Type 0 where
   pub ruled : rule hd ≡ typed q
   pub head : HeadIs sheet h hd
   pub state : StAs k s st
@@ -243,7 +243,7 @@ pub record EndAt (q : Typing) (k : Kept) (hd : Head) (sheet : Bytes) (h : Seen) 
   pub wide : 1028 ≤ length s
   pub variable : hd .word ≡ VAR → hd .var ≡ some (variableOf hd)
 
-pub record SomeEnd (sheet : Bytes) (b : Binds) (h : Seen) (s : Bytes) (st : St) (y : Tally) : Type 0 where
+pub record SomeEnd (sheet : Bytes) (b : Binds) (h : Seen) (s : Bytes) (st : Accumulator) (y : Tally) : Type 0 where
   pub typing : Typing
   pub kept : Kept
   pub head : Head
@@ -252,7 +252,7 @@ pub record SomeEnd (sheet : Bytes) (b : Binds) (h : Seen) (s : Bytes) (st : St) 
   pub bound : EnvAs sheet b env
   pub count : Countable y
 
-abbrev pub EndedBy : Bytes → Binds → Seen → Bytes → Bytes → St → Bytes → Bytes → Tally → Ended → Type 0
+abbrev pub EndedBy : Bytes → Binds → Seen → Bytes → Bytes → Accumulator → Bytes → Bytes → Tally → Ended → Type 0
 EndedBy sheet b h s s′ st out out′ y r =
     (q : Typing) (k : Kept) (hd : Head) (env : Env) → EndAt q k hd sheet h s st → EnvAs sheet b env → Ends (end q env hd k) s s′ out out′ y r
 
@@ -263,17 +263,7 @@ pub record SpeltAs (name stop r : ℕ) : Type 0 where
   pub below : r ≤ stop
   pub same : (s : Bytes) → slice r stop s ≡ slice name stop s
 
--- rules 0 to 5, whose ends add no fault and are never too large
-pub record SomeQuiet (i : ℕ) (sheet : Bytes) (b : Binds) (h : Seen) (s : Bytes) (st : St) : Type 0 where
-  pub low : i < 6
-  pub typing : Typing
-  pub kept : Kept
-  pub head : Head
-  pub env : Env
-  pub rule-no : i ≡ typingNo typing
-  pub at : EndAt typing kept head sheet h s st
-  pub bound : EnvAs sheet b env
-
-abbrev pub QuietBy : ℕ → Bytes → Binds → Seen → Bytes → Bytes → St → ℕ → Type 0
+-- an end that adds no fault and is never too large, by its type
+abbrev pub QuietBy : ℕ → Bytes → Binds → Seen → Bytes → Bytes → Accumulator → ℕ → Type 0
 QuietBy i sheet b h s s′ st r =
     (q : Typing) (k : Kept) (hd : Head) (env : Env) → i ≡ typingNo q → EndAt q k hd sheet h s st → EnvAs sheet b env → (t : Ty) → end q env hd k ≡ told t [] → Returned s s′ t r

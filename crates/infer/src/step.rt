@@ -8,7 +8,8 @@ ghost use Rattle.ty.specs.Kind.{SomeKind};
 ghost use Rattle.exprs.specs.State.{StAs, FineKept};
 ghost use Rattle.exprs.specs.End.{Countable};
 ghost use Rattle.exprs.specs.Rules.{typingNo};
-ghost use Rattle.infer.specs.Steps.{AskedBy, SomeStep, KeptBy, SteppedBy, SpeltAs, SomeQuiet, QuietBy, SomeEnd, EndedBy};
+ghost use Rattle.infer.specs.Steps.{AskedBy, SomeStep, KeptBy, SteppedBy, SpeltAs, SomeEnd, EndedBy};
+use exprs::Accumulator;
 use exprs::CALL;
 use exprs::CASING;
 use exprs::COMPREHENSION;
@@ -22,7 +23,6 @@ use exprs::MAPPING;
 use exprs::MEMBERSHIP;
 use exprs::OPERATOR;
 use exprs::SLICE;
-use exprs::St;
 use exprs::UNARY;
 use exprs::VARIABLE;
 use exprs::rule_of;
@@ -37,26 +37,26 @@ pub struct Env {
 
 // What is kept after a child; or it is too large.
 pub enum Stepped {
-    On { st: St, tally: Tally },
+    On { st: Accumulator, tally: Tally },
     Large,
 }
 
 // Before the first child.
-pub fn start(rule: usize, work: &mut [u8]) -> St
+pub fn start(rule: usize, work: &mut [u8]) -> Accumulator
     requires { ⌜ 1024 ≤ length (now work) ⌝ }
     ensures { λ r. ⌜ (length (now (work .exit)) ≡ length (now (work .entry))) × ((q : Typing) → rule ≡ typingNo q → StAs (start q) (now (work .exit)) r × FineKept (start q)) ⌝ }
 {
     match rule {
         LISTING => exprs::start_list(work),
         MAPPING => exprs::start_map(work),
-        CASING => exprs::start_arms(),
-        COMPREHENSION => exprs::start_list(work),
+        CASING => exprs::start_case(),
+        COMPREHENSION => exprs::start_comprehension(work),
         _ => exprs::start_empty(),
     }
 }
 
 // What is kept after a child.
-fn keep(rule: usize, role: usize, st: St, work: &mut [u8], n: usize, name: &[u8]) -> Keep
+fn keep(rule: usize, role: usize, st: Accumulator, work: &mut [u8], n: usize, name: &[u8]) -> Keep
     requires { ⌜ SomeStep rule role (now work) st n (now name) ⌝ }
     ensures { λ r. ⌜ KeptBy rule role (now (work .entry)) (now (work .exit)) st n (now (name .entry)) r ⌝ }
 {
@@ -68,15 +68,15 @@ fn keep(rule: usize, role: usize, st: St, work: &mut [u8], n: usize, name: &[u8]
         CALL => Keep::On(exprs::keep_first(st, n)),
         OPERATOR => Keep::On(exprs::keep_two(st, n)),
         UNARY => Keep::On(exprs::keep_first(st, n)),
-        CASING => Keep::On(exprs::keep_answer(role, st, work, n)),
+        CASING => Keep::On(exprs::case_child(role, st, work, n)),
         MEMBERSHIP => Keep::On(exprs::keep_two(st, n)),
-        COMPREHENSION => Keep::On(exprs::keep_last(st, n)),
+        COMPREHENSION => Keep::On(exprs::comprehension_child(st, n)),
         _ => Keep::On(st),
     }
 }
 
 // What a child's type is asked for by its role.
-fn ask(role: usize, kind: u8, out: &mut [u8], tally: Tally) -> Tally
+fn check_role(role: usize, kind: u8, out: &mut [u8], tally: Tally) -> Tally
     requires { ⌜ Countable tally × SomeKind kind ⌝ }
     ensures { λ r. ⌜ AskedBy role kind (now (out .entry)) (now (out .exit)) tally r ⌝ }
 {
@@ -90,7 +90,7 @@ fn ask(role: usize, kind: u8, out: &mut [u8], tally: Tally) -> Tally
 pub fn step(
     rule: usize,
     role: usize,
-    st: St,
+    st: Accumulator,
     work: &mut [u8],
     n: usize,
     name: &[u8],
@@ -101,7 +101,7 @@ pub fn step(
     ensures { λ r. ⌜ SteppedBy rule role (now (work .entry)) (now (work .exit)) st n (now (name .entry)) (now (out .entry)) (now (out .exit)) tally r ⌝ }
 {
     let k = st.len;
-    let y = ask(role, work[k], out, tally);
+    let y = check_role(role, work[k], out, tally);
     match keep(rule, role, st, work, n, name) {
         Keep::On(s) => Stepped::On { st: s, tally: y },
         Keep::Large => Stepped::Large,
@@ -115,30 +115,12 @@ pub fn spelt(k: Head) -> usize
     if k.name < k.stop { k.name } else { k.stop }
 }
 
-// The lengths of types that add no fault.
-fn quiet(rule: usize, b: Env, sheet: &[u8], h: Head, st: St, work: &mut [u8]) -> usize
-    requires { ⌜ SomeQuiet rule (now sheet) b h (now work) st ⌝ }
-    ensures { λ r. ⌜ QuietBy rule (now (sheet .entry)) b h (now (work .entry)) (now (work .exit)) st r ⌝ }
-{
-    match rule {
-        CONSTANT => exprs::constant(h.word, work),
-        VARIABLE => {
-            let v = h.var;
-            exprs::var_type(hir::bind_kind(sheet, b.from, b.to, v), work)
-        }
-        ELEMENT => exprs::end_element(st, work),
-        SLICE => exprs::end_slice(st, work),
-        LISTING => exprs::end_list(st, work),
-        _ => st.len,
-    }
-}
-
 // After the last child: the type to the front, the line's own faults to the output.
 pub fn finish(
     b: Env,
     sheet: &[u8],
     h: Head,
-    st: St,
+    st: Accumulator,
     work: &mut [u8],
     out: &mut [u8],
     tally: Tally,
@@ -148,6 +130,30 @@ pub fn finish(
 {
     let rule = rule_of(h.word);
     match rule {
+        CONSTANT => Ended::Typed {
+            len: exprs::constant(h.word, work),
+            tally,
+        },
+        VARIABLE => {
+            let v = h.var;
+            Ended::Typed {
+                len: exprs::var_type(sheet, b.from, b.to, v, work),
+                tally,
+            }
+        }
+        ELEMENT => Ended::Typed {
+            len: exprs::end_index(st, work),
+            tally,
+        },
+        SLICE => Ended::Typed {
+            len: exprs::end_slice(st, work),
+            tally,
+        },
+        LISTING => Ended::Typed {
+            len: exprs::end_list(st, work),
+            tally,
+        },
+        MAPPING => Ended::Typed { len: st.len, tally },
         CALL => {
             let n = spelt(h);
             let e = h.stop;
@@ -157,10 +163,6 @@ pub fn finish(
         UNARY => operators::infer_unaryop(h.num, work, out, tally, st),
         CASING => exprs::end_case(st, work, out, tally),
         MEMBERSHIP => operators::check_in_list(st, work, out, tally),
-        COMPREHENSION => exprs::end_last(st, work, out, tally),
-        _ => Ended::Typed {
-            len: quiet(rule, b, sheet, h, st, work),
-            tally,
-        },
+        _ => exprs::end_comprehension(st, work, out, tally),
     }
 }

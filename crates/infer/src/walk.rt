@@ -9,8 +9,8 @@ use crate::step::finish;
 use crate::step::spelt;
 use crate::step::start;
 use crate::step::step;
+use exprs::Accumulator;
 use exprs::Ended;
-use exprs::St;
 use exprs::role_of;
 use exprs::rule_of;
 use line::Head;
@@ -65,10 +65,10 @@ fn entered(sheet: &[u8], k: Head, c: Cur) -> Met
 }
 
 // What is kept, when the next child's type stands behind it.
-fn held(st: St) -> St
+fn before_child(st: Accumulator) -> Accumulator
     ensures { λ r. ⌜ (r .len ≡ st .len) × (r .second ≡ 0) × (r .over ≡ st .over) ⌝ }
 {
-    St {
+    Accumulator {
         len: st.len,
         second: 0,
         over: st.over,
@@ -85,7 +85,7 @@ fn told(e: Ended, here: HirId, cur: Cur) -> Walk
     }
 }
 
-// The type of an expression below whose line nothing can stand: nothing is kept before its end.
+// The type of an expression below whose line nothing can stand: a variable's, or that of its word.
 pub fn infer_leaf(
     b: Env,
     sheet: &[u8],
@@ -99,12 +99,19 @@ pub fn infer_leaf(
     ensures { λ r. ⌜ LeafWalked (now (sheet .entry)) b h cur (now (work .entry)) (now (work .exit)) (now (out .entry)) (now (out .exit)) tally r ⌝ }
 {
     let behind = past(cur, h);
-    let here = cur.line;
-    told(
-        finish(b, sheet, h, exprs::start_empty(), work, out, tally),
-        here,
-        behind,
-    )
+    if h.word == line::VAR {
+        let v = h.var;
+        return Walk::Done {
+            len: exprs::var_type(sheet, b.from, b.to, v, work),
+            cur: behind,
+            tally,
+        };
+    }
+    Walk::Done {
+        len: exprs::constant(h.word, work),
+        cur: behind,
+        tally,
+    }
 }
 
 // The type of the expression whose line is `h`, with `depth` levels left.
@@ -142,7 +149,16 @@ pub fn infer_expr(
                 let role = role_of(h, j);
                 let a = spelt(k);
                 let z = k.stop;
-                match step(rule, role, held(st), work, len, &sheet[a..z], out, more) {
+                match step(
+                    rule,
+                    role,
+                    before_child(st),
+                    work,
+                    len,
+                    &sheet[a..z],
+                    out,
+                    more,
+                ) {
                     Stepped::On { st: s, tally: t } => {
                         st = s;
                         y = t;

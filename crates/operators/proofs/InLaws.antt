@@ -23,7 +23,7 @@ use Rattle.unify.specs.Work.{Operand, Ready, Answered, Unifies}
 use Rattle.unify.specs.declared.Unified.{Unified}
 use Rattle.unify.specs.declared.Unified.the-variants.{Done, Mismatch, TooLarge}
 use Rattle.walk_run.specs.Run.{told, orMuch, endIn}
-use Rattle.exprs.specs.declared.state.St.{St}
+use Rattle.exprs.specs.declared.state.Accumulator.{Accumulator}
 use Rattle.report.specs.Report.{Adds, codeFault}
 use Rattle.report.specs.declared.Tally.{Tally}
 use Rattle.report.proofs.ReportLaws.{adds-none}
@@ -76,7 +76,7 @@ in-plain a (tNode ls) h = refl
 in-plain a (tRelationship n) h = refl
 in-plain a (tUnion ts) h = refl
 
-module _ {a b : Ty} {s : Bytes} {st : St} (h : TwoAt a b s st) (d : getD s (st .len) 0 ≡ 74 → ⊥) (f : Bool) (l : LetsIn (getD s (st .len) 0) f) where
+module _ {a b : Ty} {s : Bytes} {st : Accumulator} (h : TwoAt a b s st) (d : getD s (st .len) 0 ≡ 74 → ⊥) (f : Bool) (l : LetsIn (getD s (st .len) 0) f) where
   plain-faults : (g : Bool) → f ≡ g → endIn a b ≡ told (base tBool) (elim g [ true ↦ [] | false ↦ E2013 b ∷ [] ])
   plain-faults g q =
       in-plain a b (λ e. d (sym (right-kind h) ∙ e))
@@ -102,13 +102,13 @@ kind-list (tRelationship n) h = absurd (omega arith)
 kind-list (tUnion ts) h = absurd (omega arith)
 
 -- the element stands behind `J,`
-pub record Element (a b : Ty) (s : Bytes) (st : St) : Type 0 where
+pub record Element (a b : Ty) (s : Bytes) (st : Accumulator) : Type 0 where
   pub ty : Ty
   pub is : b ≡ tList ty
   pub operand : Operand s (st .len + 2) (st .len + st .second) (st .len + st .second) ty
   pub ready : Ready s 0 (st .len) (st .len + 2) (st .len + st .second) (st .len + st .second)
 
-module _ {a b : Ty} {s : Bytes} {st : St} (h : TwoAt a b s st) (q : getD s (st .len) 0 ≡ 74) where
+module _ {a b : Ty} {s : Bytes} {st : Accumulator} (h : TwoAt a b s st) (q : getD s (st .len) 0 ≡ 74) where
   pub element-of : Element a b s st
   element-of =
       let (u, e) = kind-list b (right-kind h ∙ q) in
@@ -126,14 +126,14 @@ module _ {a b : Ty} {s : Bytes} {st : St} (h : TwoAt a b s st) (q : getD s (st .
             ready = record { left = a; right = u; first = left-operand g; second = o; room = omega (arith, g .room, slots-element a u) };
           }
 
-pub list-ready : {s : Bytes} {st : St} → SomeTwo s st → getD s (st .len) 0 ≡ 74 → Ready s 0 (st .len) (st .len + 2) (st .len + st .second) (st .len + st .second)
+pub list-ready : {s : Bytes} {st : Accumulator} → SomeTwo s st → getD s (st .len) 0 ≡ 74 → Ready s 0 (st .len) (st .len + 2) (st .len + st .second) (st .len + st .second)
 list-ready p q = element-of (p .at) q .ready
 
 -- the list's line is a part of the work area, of which `ty::element` hands back the element's
-abbrev pub listPart : Bytes → St → Bytes
+abbrev pub listPart : Bytes → Accumulator → Bytes
 listPart s st = take (st .len + st .second - st .len) (drop (st .len) s)
 
-module _ {a b : Ty} {s : Bytes} {st : St} (h : TwoAt a b s st) (q : getD s (st .len) 0 ≡ 74) where
+module _ {a b : Ty} {s : Bytes} {st : Accumulator} (h : TwoAt a b s st) (q : getD s (st .len) 0 ≡ 74) where
   list-is : listPart s st ≡ line (tList (element-of h q .ty))
   list-is = part-slice (st .len) (st .len + st .second) s ∙ second-at (h .at) .is ∙ ap line (element-of h q .is)
 
@@ -145,7 +145,7 @@ module _ {a b : Ty} {s : Bytes} {st : St} (h : TwoAt a b s st) (q : getD s (st .
     unfolding line
     element-kind = sym (ap (λ (x : Bytes). getD x 0 0) (element-is ∙ line-opens (element-of h q .ty) []))
 
-module _ {s : Bytes} {st : St} (p : SomeTwo s st) (q : getD s (st .len) 0 ≡ 74) where
+module _ {s : Bytes} {st : Accumulator} (p : SomeTwo s st) (q : getD s (st .len) 0 ≡ 74) where
   pub list-line : ListLine (listPart s st)
   list-line = record { element = element-of (p .at) q .ty; is = list-is (p .at) q }
 
@@ -181,7 +181,7 @@ in-apart : (a u x y : Ty) → verdict (unify a u) ≡ mismatch x y → inFaults 
 unfolding inFaults
 in-apart a u x y e = ap (apart a u) (verdict-apart (unify a u) x y e)
 
-module _ {a b : Ty} {s s₁ : Bytes} {st : St} {o : Unified} (w : Unifies s s₁ 0 (st .len) (st .len + 2) (st .len + st .second) (st .len + st .second) o)
+module _ {a b : Ty} {s s₁ : Bytes} {st : Accumulator} {o : Unified} (w : Unifies s s₁ 0 (st .len) (st .len + 2) (st .len + st .second) (st .len + st .second) o)
     (h : TwoAt a b s st) (q : getD s (st .len) 0 ≡ 74) where
   element-run : Answered (verdict (unify a (element-of h q .ty))) s₁ (st .len + st .second) o
   element-run = w .answer a (element-of h q .ty) (left-operand h) (element-of h q .operand)

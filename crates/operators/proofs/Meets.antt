@@ -21,7 +21,7 @@ use Rattle.unify.specs.declared.Unified.{Unified}
 use Rattle.unify.specs.declared.Unified.the-variants.{Done, Mismatch, TooLarge}
 use Rattle.walk_run.specs.Run.{Told, told, tooMuch, orMuch, endOp}
 use Rattle.exprs.specs.State.{Fine}
-use Rattle.exprs.specs.declared.state.St.{St}
+use Rattle.exprs.specs.declared.state.Accumulator.{Accumulator}
 use Rattle.report.specs.Report.{faultsText, Adds}
 use Rattle.report.specs.declared.Tally.{Tally}
 use Rattle.report.proofs.ReportLaws.{adds-none}
@@ -33,7 +33,7 @@ use Rattle.exprs.proofs.States.{first-at, second-at}
 
 -- ## The operands of two types that are kept
 
-module _ {a b : Ty} {s : Bytes} {st : St} (h : TwoAt a b s st) where
+module _ {a b : Ty} {s : Bytes} {st : Accumulator} (h : TwoAt a b s st) where
   pub left-operand : Operand s 0 (st .len) (st .len + st .second) a
   left-operand =
       let f = h .at .fine .0 in
@@ -50,13 +50,13 @@ module _ {a b : Ty} {s : Bytes} {st : St} (h : TwoAt a b s st) where
   pub right-kind : kindOf b ≡ getD s (st .len) 0
   right-kind = sym (kind-at s (st .len) (st .len + st .second) b (second-at (h .at)))
 
-pub two-ready : {s : Bytes} {st : St} → SomeTwo s st → Ready s 0 (st .len) (st .len) (st .len + st .second) (st .len + st .second)
+pub two-ready : {s : Bytes} {st : Accumulator} → SomeTwo s st → Ready s 0 (st .len) (st .len) (st .len + st .second) (st .len + st .second)
 two-ready p = record { left = p .left; right = p .right; first = left-operand (p .at); second = right-operand (p .at); room = p .at .room }
 
-pub two-kinds : {s : Bytes} {st : St} → SomeTwo s st → SomeKinds (getD s 0 0) (getD s (st .len) 0)
+pub two-kinds : {s : Bytes} {st : Accumulator} → SomeTwo s st → SomeKinds (getD s 0 0) (getD s (st .len) 0)
 two-kinds p = record { first = record { ty = p .left; is = left-kind (p .at) }; second = record { ty = p .right; is = right-kind (p .at) } }
 
-pub two-inside : {s : Bytes} {st : St} → SomeTwo s st → (2 ≤ st .len) × (st .len + 2 ≤ st .len + st .second) × (st .len + st .second ≤ length s)
+pub two-inside : {s : Bytes} {st : Accumulator} → SomeTwo s st → (2 ≤ st .len) × (st .len + 2 ≤ st .len + st .second) × (st .len + st .second ≤ length s)
 two-inside {s} {st} p =
     let f = first-at (p .at .at) in
     let g = second-at (p .at .at) in
@@ -117,7 +117,7 @@ compared : (a b : Ty) (R : Run) → verdict (unify a b) ≡ R → endOp comparis
 unfolding endOp
 compared a b R e = ap (λ (x : Run). orMuch x (λ t. told (base tBool) []) (told (base tBool) [])) e
 
-module _ {s s₁ : Bytes} {st : St} {u : Unified} (w : Unifies s s₁ 0 (st .len) (st .len) (st .len + st .second) (st .len + st .second) u) {a b : Ty} (h : TwoAt a b s st) where
+module _ {s s₁ : Bytes} {st : Accumulator} {u : Unified} (w : Unifies s s₁ 0 (st .len) (st .len) (st .len + st .second) (st .len + st .second) u) {a b : Ty} (h : TwoAt a b s st) where
   told-run : Answered (verdict (unify a b)) s₁ (st .len + st .second) u
   told-run = w .answer a b (left-operand h) (right-operand h)
 

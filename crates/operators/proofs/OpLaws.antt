@@ -24,7 +24,7 @@ use Rattle.unify.specs.Work.{Operand, Ready, Answered, Unifies, slots}
 use Rattle.unify.specs.declared.Unified.{Unified}
 use Rattle.unify.specs.declared.Unified.the-variants.{Done, Mismatch, TooLarge}
 use Rattle.walk_run.specs.Run.{kept, told, orMuch, endOp}
-use Rattle.exprs.specs.declared.state.St.{St}
+use Rattle.exprs.specs.declared.state.Accumulator.{Accumulator}
 use Rattle.report.specs.Report.{faultsText, Adds}
 use Rattle.report.specs.declared.Tally.{Tally}
 use Rattle.report.proofs.ReportLaws.{adds-none, adds-then, fault-short}
@@ -135,10 +135,10 @@ put-numeric t e h p =
 
 -- ## A unary operator
 
-pub one-kind : {s : Bytes} {st : St} {t : Ty} → KeptAt (kept t) s st → kindOf t ≡ getD s 0 0
+pub one-kind : {s : Bytes} {st : Accumulator} {t : Ty} → KeptAt (kept t) s st → kindOf t ≡ getD s 0 0
 one-kind {s} {st} {t} h = sym (kind-at s 0 (st .len) t (kept-at h))
 
-module _ {s s′ out out′ : Bytes} {n m : Tally} {st : St} (k : ℕ) {t : Ty} (h : KeptAt (kept t) s st) where
+module _ {s s′ out out′ : Bytes} {n m : Tally} {st : Accumulator} (k : ℕ) {t : Ty} (h : KeptAt (kept t) s st) where
   pub unary-minus : {x len : ℕ} → k ≡ 0 → NumericKind (getD s 0 0) x → Puts (x ∷ 44 ∷ []) s s′ len → ((u : Ty) → kindOf u ≡ getD s 0 0 → Adds (require aNumber u) out out′ n m)
       → Ends (told (unaryType k t) (unaryFaults k t)) s s′ out out′ n (Typed len m)
   unfolding unaryType unaryFaults
@@ -231,7 +231,7 @@ module _ {s s₁ : Bytes} {x y r : ℕ} (h : 8192 ≤ length s) (p : Puts (x ∷
 
 -- ## A binary operator
 
-module _ {s s′ out : Bytes} {n : Tally} {st : St} {r : Ended} {o : Op} {a b : Ty} (h : TwoAt a b s st) where
+module _ {s s′ out : Bytes} {n : Tally} {st : Accumulator} {r : Ended} {o : Op} {a b : Ty} (h : TwoAt a b s st) where
   pub binary-arithmetic : {out′ : Bytes} {m : Tally} → o ≡ arithmetic → TwoAsked aNumber (getD s 0 0) (getD s (st .len) 0) out out′ n m → Computed (getD s 0 0) (getD s (st .len) 0) s s′ m r
       → Ends (endOp o a b) s s′ out out′ n r
   unfolding endOp opFaults

@@ -5,8 +5,8 @@ ghost use Rattle.semantics.specs.Ty.{Ty};
 ghost use Rattle.walk_run.specs.Run.{endIn};
 ghost use Rattle.exprs.specs.End.{Ends, Countable, TwoAt, SomeTwo};
 ghost use Rattle.operators.specs.Helpers.{SomeKinds, Parted, LetsIn};
+use exprs::Accumulator;
 use exprs::Ended;
-use exprs::St;
 use exprs::is_bool;
 use report::Tally;
 use ty::ANY;
@@ -30,7 +30,7 @@ fn mismatch_in(a: u8, b: u8, out: &mut [u8], tally: Tally) -> Tally
 }
 
 // With a list on the right: the operand against its element.
-fn in_list(st: St, work: &mut [u8], out: &mut [u8], tally: Tally) -> Ended
+fn in_list(st: Accumulator, work: &mut [u8], out: &mut [u8], tally: Tally) -> Ended
     requires { ⌜ SomeTwo (now work) st × Countable tally × (getD (now work) (st .len) 0 ≡ 74) ⌝ }
     ensures { λ r. ⌜ ((a b : Ty) → TwoAt a b (now (work .entry)) st → Ends (endIn a b) (now (work .entry)) (now (work .exit)) (now (out .entry)) (now (out .exit)) tally r) ⌝ }
 {
@@ -66,7 +66,7 @@ fn lets_in(kind: u8) -> bool
     }
 }
 
-pub fn check_in_list(st: St, work: &mut [u8], out: &mut [u8], tally: Tally) -> Ended
+pub fn check_in_list(st: Accumulator, work: &mut [u8], out: &mut [u8], tally: Tally) -> Ended
     requires { ⌜ SomeTwo (now work) st × Countable tally ⌝ }
     ensures { λ r. ⌜ ((a b : Ty) → TwoAt a b (now (work .entry)) st → Ends (endIn a b) (now (work .entry)) (now (work .exit)) (now (out .entry)) (now (out .exit)) tally r) ⌝ }
 {

@@ -12,8 +12,8 @@ ghost use Rattle.report.specs.Report.{Adds};
 ghost use Rattle.walk_run.specs.Run.{kept, told, endOp};
 ghost use Rattle.exprs.specs.End.{Ends, Countable, KeptAt, TwoAt, SomeTwo, SomeOne};
 ghost use Rattle.operators.specs.Helpers.{NumericKind, SomeKinds, TwoAsked, Computed, opNumber};
+use exprs::Accumulator;
 use exprs::Ended;
-use exprs::St;
 use exprs::is_bool;
 use exprs::put_letter;
 use exprs::put_pair;
@@ -80,7 +80,13 @@ pub fn require_bool(kind: u8, out: &mut [u8], t: Tally) -> Tally
 const NEG: u64 = 0;
 
 // A unary operator.
-pub fn infer_unaryop(num: u64, work: &mut [u8], out: &mut [u8], tally: Tally, st: St) -> Ended
+pub fn infer_unaryop(
+    num: u64,
+    work: &mut [u8],
+    out: &mut [u8],
+    tally: Tally,
+    st: Accumulator,
+) -> Ended
     requires { ⌜ SomeOne (now work) st × Countable tally ⌝ }
     ensures { λ r. ⌜ ((t : Ty) → KeptAt (kept t) (now (work .entry)) st → Ends (told (unaryType num t) (unaryFaults num t)) (now (work .entry)) (now (work .exit)) (now (out .entry)) (now (out .exit)) tally r) ⌝ }
 {
@@ -122,7 +128,7 @@ fn arithmetic(work: &mut [u8], a: u8, b: u8, tally: Tally) -> Ended
 }
 
 // A comparison: only whether the operands' unification is too large.
-fn comparison(st: St, work: &mut [u8], tally: Tally) -> Ended
+fn comparison(st: Accumulator, work: &mut [u8], tally: Tally) -> Ended
     requires { ⌜ SomeTwo (now work) st ⌝ }
     ensures { λ r. ⌜ ((a b : Ty) (out : Bytes) → TwoAt a b (now (work .entry)) st → Ends (endOp comparisonOp a b) (now (work .entry)) (now (work .exit)) out out tally r) ⌝ }
 {
@@ -202,7 +208,13 @@ fn two_strings(a: u8, b: u8, out: &mut [u8], tally: Tally) -> Tally
 }
 
 // A binary operator over its operands' types, [0..len) and `second` bytes behind them.
-pub fn infer_binop(num: u64, st: St, work: &mut [u8], out: &mut [u8], tally: Tally) -> Ended
+pub fn infer_binop(
+    num: u64,
+    st: Accumulator,
+    work: &mut [u8],
+    out: &mut [u8],
+    tally: Tally,
+) -> Ended
     requires { ⌜ SomeTwo (now work) st × Countable tally ⌝ }
     ensures { λ r. ⌜ ((a b : Ty) → TwoAt a b (now (work .entry)) st → Ends (endOp (op num) a b) (now (work .entry)) (now (work .exit)) (now (out .entry)) (now (out .exit)) tally r) ⌝ }
 {

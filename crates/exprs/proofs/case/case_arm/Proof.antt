@@ -1,4 +1,4 @@
--- `kept::case_arm` meets its contract. Assumes nothing.
+-- `case_arm` meets its contract. Assumes nothing.
 use mathlib.Core.Path.{refl}
 use Rattle.exprs.proofs.ChildLaws.{arm-over, arm-in, arm-on, arm-large}
 use borrow.Author.Needs.{needs}

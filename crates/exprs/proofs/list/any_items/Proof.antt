@@ -1,4 +1,4 @@
--- `kept::any_items` meets its contract. Assumes nothing.
+-- `any_items` meets its contract. Assumes nothing.
 use Rattle.exprs.proofs.ItemLaws.{any-kept}
 use borrow.Author.Needs.{needs}
 use Rattle.exprs.proofs.list.any_items.Statement.{statement}

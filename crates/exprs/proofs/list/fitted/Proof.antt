@@ -1,4 +1,4 @@
--- `kept::fitted` meets its contract. Assumes nothing.
+-- `fitted` meets its contract. Assumes nothing.
 use Rattle.exprs.proofs.ItemLaws.{list-from, list-inside, fitted-on, fitted-large}
 use borrow.Author.Needs.{needs}
 use Rattle.exprs.proofs.list.fitted.Statement.{statement}

@@ -1,4 +1,4 @@
--- `kept::list_item` meets its contract. Assumes nothing.
+-- `list_item` meets its contract. Assumes nothing.
 use mathlib.Core.Logic.{inl}
 use native.Mathlib.Omega.{arith}
 use Rattle.exprs.proofs.ItemLaws.{copied-list, first-list, first-kept, running, ready, stood, headed, item-done, item-apart, item-large}

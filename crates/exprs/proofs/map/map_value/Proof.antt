@@ -1,4 +1,4 @@
--- `kept::map_value` meets its contract. Assumes nothing.
+-- `map_value` meets its contract. Assumes nothing.
 use Rattle.exprs.proofs.ChildLaws.{entry-in, entry-on, entry-large}
 use borrow.Author.Needs.{needs}
 use Rattle.exprs.proofs.map.map_value.Statement.{statement}

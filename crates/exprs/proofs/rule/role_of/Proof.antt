@@ -8,20 +8,20 @@ use Rattle.exprs.proofs.rule.role_of.Tie as tie
 case-role-requires : tie.Need-case-role-requires
 case-role-requires c κs = search needs
 
-around-role-requires : tie.Need-around-role-requires
-around-role-requires c κs = search needs
+comprehension-role-requires : tie.Need-comprehension-role-requires
+comprehension-role-requires c κs = search needs
 
-around-role-requires-2 : tie.Need-around-role-requires-2
-around-role-requires-2 c κs = search needs
+comprehension-role-requires-2 : tie.Need-comprehension-role-requires-2
+comprehension-role-requires-2 c κs = search needs
 
 returns : tie.Need-returns
 returns c s hd i l = case-role s _ hd i _ _ (c .before .match .keys1) (c .case-role .ensures) l
 
 returns-2 : tie.Need-returns-2
-returns-2 c s hd i l = around-is s _ hd i _ _ (inl (c .before .match .keys2)) (c .around-role .ensures)
+returns-2 c s hd i l = around-is s _ hd i _ _ (inl (c .before .match .keys2)) (c .comprehension-role .ensures)
 
 returns-3 : tie.Need-returns-3
-returns-3 c s hd i l = around-is s _ hd i _ _ (inr (c .before .match .keys3)) (c .around-role2 .ensures)
+returns-3 c s hd i l = around-is s _ hd i _ _ (inr (c .before .match .keys3)) (c .comprehension-role2 .ensures)
 
 returns-4 : tie.Need-returns-4
 returns-4 c s hd i l = other-role s _ hd i _ (c .match .rest .0 .0 .1) (⊎-elim (c .match .rest .0 .1) (c .match .rest .1))
@@ -31,8 +31,8 @@ role-of-spec =
     tie.close
     (tie.spec
     case-role-requires
-    around-role-requires
-    around-role-requires-2
+    comprehension-role-requires
+    comprehension-role-requires-2
     returns
     returns-2
     returns-3

@@ -1,4 +1,4 @@
--- `kept::keep_first` meets its contract. Assumes nothing.
+-- `keep_first` meets its contract. Assumes nothing.
 use Rattle.exprs.proofs.StateLaws.{first-stays, first-new}
 use native.Mathlib.Omega.{arith}
 use borrow.Author.Needs.{needs}

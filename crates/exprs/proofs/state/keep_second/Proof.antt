@@ -1,4 +1,4 @@
--- `kept::keep_second` meets its contract. Assumes nothing.
+-- `keep_second` meets its contract. Assumes nothing.
 use Rattle.exprs.proofs.StateLaws.{second-new}
 use borrow.Author.Needs.{needs}
 use Rattle.exprs.proofs.state.keep_second.Statement.{statement}

@@ -1,4 +1,4 @@
--- `kept::start_empty` meets its contract. Assumes nothing.
+-- `start_empty` meets its contract. Assumes nothing.
 use Rattle.exprs.proofs.StateLaws.{empty-is}
 use borrow.Author.Needs.{needs}
 use Rattle.exprs.proofs.state.start_empty.Statement.{statement}

@@ -1,67 +1,22 @@
--- `var_type`: by the arms. Assumes nothing.
-use Rattle.exprs.proofs.Fronts.{var-node, var-relationship, var-path, var-other}
+-- `var_type`: by the kind of its binding. Assumes nothing.
+use Rattle.exprs.proofs.Fronts.{var-kind}
 use borrow.Author.Needs.{needs}
 use Rattle.exprs.proofs.variable.var_type.Statement.{statement}
 use Rattle.exprs.proofs.variable.var_type.Tie as tie
 
-put-pair-requires : tie.Need-put-pair-requires
-put-pair-requires c κs = search needs
+bind-kind-requires : tie.Need-bind-kind-requires
+bind-kind-requires c κs = search needs
 
-put-pair-requires-2 : tie.Need-put-pair-requires-2
-put-pair-requires-2 c κs = search needs
-
-put-letter-requires : tie.Need-put-letter-requires
-put-letter-requires c κs = search needs
-
-put-letter-requires-2 : tie.Need-put-letter-requires-2
-put-letter-requires-2 c κs = search needs
+kind-type-requires : tie.Need-kind-type-requires
+kind-type-requires c κs = search needs
 
 same-length : tie.Need-same-length
 same-length c = search needs
 
 returns : tie.Need-returns
 returns c =
-    let w = var-node _ (c .before .before .before .before .before .before .pre) (c .before .before .before .before .match .keys1) (c .before .before .put-pair .ensures) in
-    (w .at, w .long)
-
-same-length-2 : tie.Need-same-length-2
-same-length-2 c = search needs
-
-returns-2 : tie.Need-returns-2
-returns-2 c =
-    let w = var-relationship _ (c .before .before .before .before .before .before .pre) (c .before .before .before .before .match .keys2) (c .before .before .put-pair2 .ensures) in
-    (w .at, w .long)
-
-same-length-3 : tie.Need-same-length-3
-same-length-3 c = search needs
-
-returns-3 : tie.Need-returns-3
-returns-3 c =
-    let w = var-path _ (c .before .before .before .before .before .before .pre) (c .before .before .before .before .match .keys3) (c .before .before .put-letter .ensures) in
-    (w .at, w .long)
-
-same-length-4 : tie.Need-same-length-4
-same-length-4 c = search needs
-
-returns-4 : tie.Need-returns-4
-returns-4 c =
-    let r = c .before .before .before .before .match .rest in
-    let w = var-other _ (c .before .before .before .before .before .before .pre) (r .0 .0 .1) (r .0 .1) (r .1) (c .before .before .put-letter2 .ensures) in
-    (w .at, w .long)
+    (λ b. var-kind (c .before .before .before .before .bind-kind .ensures b) (c .before .before .kind-type .ensures .0), c .before .before .kind-type .ensures .1)
 
 pub var-type-spec : {M : Type 1} → statement M
 var-type-spec =
-    tie.close
-    (tie.spec
-    put-pair-requires
-    put-pair-requires-2
-    put-letter-requires
-    put-letter-requires-2
-    same-length
-    returns
-    same-length-2
-    returns-2
-    same-length-3
-    returns-3
-    same-length-4
-    returns-4)
+    tie.close (tie.spec bind-kind-requires kind-type-requires same-length returns)

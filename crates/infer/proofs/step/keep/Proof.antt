@@ -25,14 +25,14 @@ keep-two-requires c κs = search needs
 keep-first-requires-4 : tie.Need-keep-first-requires-4
 keep-first-requires-4 c κs = search needs
 
-keep-answer-requires : tie.Need-keep-answer-requires
-keep-answer-requires c κs = arm-in (c .before .match .keys8) (c .before .before .before .before .pre)
+case-child-requires : tie.Need-case-child-requires
+case-child-requires c κs = arm-in (c .before .match .keys8) (c .before .before .before .before .pre)
 
 keep-two-requires-2 : tie.Need-keep-two-requires-2
 keep-two-requires-2 c κs = search needs
 
-keep-last-requires : tie.Need-keep-last-requires
-keep-last-requires c κs = search needs
+comprehension-child-requires : tie.Need-comprehension-child-requires
+comprehension-child-requires c κs = search needs
 
 returns : tie.Need-returns
 returns c = keep-element (c .before .match .keys1) (c .keep-first .ensures)
@@ -65,13 +65,13 @@ same-length-3 : tie.Need-same-length-3
 same-length-3 c = search needs
 
 returns-8 : tie.Need-returns-8
-returns-8 c = keep-answer (c .before .before .before .before .match .keys8) (c .before .before .keep-answer .ensures)
+returns-8 c = keep-answer (c .before .before .before .before .match .keys8) (c .before .before .case-child .ensures)
 
 returns-9 : tie.Need-returns-9
 returns-9 c = keep-membership (c .before .match .keys9) (c .keep-two2 .ensures)
 
 returns-10 : tie.Need-returns-10
-returns-10 c = keep-last (c .before .match .keys10) (c .keep-last .ensures)
+returns-10 c = keep-last (c .before .match .keys10) (c .comprehension-child .ensures)
 
 returns-11 : tie.Need-returns-11
 returns-11 c = keep-none (c .match .rest)
@@ -87,9 +87,9 @@ keep-spec =
     keep-first-requires-3
     keep-two-requires
     keep-first-requires-4
-    keep-answer-requires
+    case-child-requires
     keep-two-requires-2
-    keep-last-requires
+    comprehension-child-requires
     returns
     returns-2
     same-length

@@ -11,11 +11,11 @@ start-list-requires c κs = search needs
 start-map-requires : tie.Need-start-map-requires
 start-map-requires c κs = search needs
 
-start-arms-requires : tie.Need-start-arms-requires
-start-arms-requires c κs = search needs
+start-case-requires : tie.Need-start-case-requires
+start-case-requires c κs = search needs
 
-start-list-requires-2 : tie.Need-start-list-requires-2
-start-list-requires-2 c κs = search needs
+start-comprehension-requires : tie.Need-start-comprehension-requires
+start-comprehension-requires c κs = search needs
 
 start-empty-requires : tie.Need-start-empty-requires
 start-empty-requires c κs = search needs
@@ -33,13 +33,13 @@ returns-2 : tie.Need-returns-2
 returns-2 c = (c .before .before .start-map .ensures .1, λ q e. start-map q _ e (c .before .before .before .before .match .keys2) (c .before .before .start-map .ensures .0))
 
 returns-3 : tie.Need-returns-3
-returns-3 c = (refl, λ q e. start-arms q _ e (c .before .match .keys3) (c .start-arms .ensures _))
+returns-3 c = (refl, λ q e. start-arms q _ e (c .before .match .keys3) (c .start-case .ensures _))
 
 same-length-3 : tie.Need-same-length-3
 same-length-3 c = search needs
 
 returns-4 : tie.Need-returns-4
-returns-4 c = (c .before .before .start-list2 .ensures .2, λ q e. start-last q _ e (c .before .before .before .before .match .keys4) (c .before .before .start-list2 .ensures .1))
+returns-4 c = (c .before .before .start-comprehension .ensures .1, λ q e. start-last q _ e (c .before .before .before .before .match .keys4) (c .before .before .start-comprehension .ensures .0))
 
 returns-5 : tie.Need-returns-5
 returns-5 c = let m = c .before .match .rest in (refl, λ q e. start-empty q _ e (m .0 .0 .0 .1) (m .0 .0 .1) (m .0 .1) (m .1) (c .start-empty .ensures _))
@@ -50,8 +50,8 @@ start-spec =
     (tie.spec
     start-list-requires
     start-map-requires
-    start-arms-requires
-    start-list-requires-2
+    start-case-requires
+    start-comprehension-requires
     start-empty-requires
     same-length
     returns

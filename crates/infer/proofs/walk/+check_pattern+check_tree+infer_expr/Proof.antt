@@ -30,7 +30,7 @@ use Rattle.infer.proofs.step.spelt.Reads as spelt-reads
 use Rattle.infer.proofs.step.start.Reads as start-reads
 use Rattle.infer.proofs.step.step.Reads as step-reads
 use Rattle.infer.proofs.walk.entered.Reads as entered-reads
-use Rattle.infer.proofs.walk.held.Reads as held-reads
+use Rattle.infer.proofs.walk.before_child.Reads as before-child-reads
 use Rattle.infer.proofs.walk.infer_leaf.Reads as infer-leaf-reads
 use Rattle.infer.proofs.walk.past.Reads as past-reads
 use Rattle.infer.proofs.walk.told.Reads as told-reads
@@ -90,7 +90,7 @@ abbrev check-tree-claims : ℕ → check-tree-lts.Claims
 check-tree-claims t = (entered-reads.Asked, entered-reads.Learnt, class-of-reads.Asked, class-of-reads.Learnt, is-leaf-reads.Asked, is-leaf-reads.Learnt, infer-leaf-reads.Asked, infer-leaf-reads.Learnt, infer-expr-below t, infer-expr.Post, check-pattern-below t, check-pattern.Post)
 
 abbrev infer-expr-claims : ℕ → infer-expr-lts.Claims
-infer-expr-claims t = (kids-of-reads.Asked, kids-of-reads.Learnt, rule-of-reads.Asked, rule-of-reads.Learnt, past-reads.Asked, past-reads.Learnt, start-reads.Asked, start-reads.Learnt, read-line-reads.Asked, read-line-reads.Learnt, check-tree-below t, check-tree.Post, role-of-reads.Asked, role-of-reads.Learnt, spelt-reads.Asked, spelt-reads.Learnt, held-reads.Asked, held-reads.Learnt, step-reads.Asked, step-reads.Learnt, finish-reads.Asked, finish-reads.Learnt, told-reads.Asked, told-reads.Learnt)
+infer-expr-claims t = (kids-of-reads.Asked, kids-of-reads.Learnt, rule-of-reads.Asked, rule-of-reads.Learnt, past-reads.Asked, past-reads.Learnt, start-reads.Asked, start-reads.Learnt, read-line-reads.Asked, read-line-reads.Learnt, check-tree-below t, check-tree.Post, role-of-reads.Asked, role-of-reads.Learnt, spelt-reads.Asked, spelt-reads.Learnt, before-child-reads.Asked, before-child-reads.Learnt, step-reads.Asked, step-reads.Learnt, finish-reads.Asked, finish-reads.Learnt, told-reads.Asked, told-reads.Learnt)
 
 check-pattern-loop-holds : (t : ℕ) → check-pattern-lts.Need-loop-holds (check-pattern-claims t) (check-pattern-at t) check-pattern.Post check-pattern-Inv-loop check-pattern-μ-loop
 check-pattern-loop-holds t c = pattern-start
@@ -265,8 +265,8 @@ infer-expr-role-of-requires t c κs = infer-role (c .before .before .before .bef
 infer-expr-spelt-requires : (t : ℕ) → infer-expr-lts.Need-spelt-requires (infer-expr-claims t) (infer-expr-at t) infer-expr.Post infer-expr-Inv-loop infer-expr-μ-loop
 infer-expr-spelt-requires t c κs = search needs
 
-infer-expr-held-requires : (t : ℕ) → infer-expr-lts.Need-held-requires (infer-expr-claims t) (infer-expr-at t) infer-expr.Post infer-expr-Inv-loop infer-expr-μ-loop
-infer-expr-held-requires t c κs = search needs
+infer-expr-before-child-requires : (t : ℕ) → infer-expr-lts.Need-before-child-requires (infer-expr-claims t) (infer-expr-at t) infer-expr.Post infer-expr-Inv-loop infer-expr-μ-loop
+infer-expr-before-child-requires t c κs = search needs
 
 infer-expr-sub-step : (t : ℕ) → infer-expr-lts.Need-sub-step (infer-expr-claims t) (infer-expr-at t) infer-expr.Post infer-expr-Inv-loop infer-expr-μ-loop
 infer-expr-sub-step t c = c .before .before .spelt .ensures .below
@@ -278,7 +278,7 @@ infer-expr-part-step-end : (t : ℕ) → infer-expr-lts.Need-part-step-end (infe
 infer-expr-part-step-end t c = omega (arith, infer-stop (c .before .before .before .before .before .before .before .before .before .before .before .before .before .before .before .before .before .before .before .before .before .before .before .before .before .before .before .before .pre .1) (c .before .before .before .before .before .before .before .before .before .before .before .before .before .before .before .before .loop .inv) (c .before .before .before .before .before .before .before .before .before .before .before .before .before .before .before .before .before .before .before .start .ensures .0) (c .before .before .before .before .before .before .before .before .before .before .before .before .before .before .before .before .before .before .before .before .before .before .before .kids-of .ensures) (c .before .before .before .before .before .before .before .before .before .before .before .before .before .before .before .loop-test .taken) _ (c .before .before .before .before .before .before .before .before .before .before .before .before .before .before .read-line .ensures), c .before .before .spelt .ensures .below)
 
 infer-expr-step-requires : (t : ℕ) → infer-expr-lts.Need-step-requires (infer-expr-claims t) (infer-expr-at t) infer-expr.Post infer-expr-Inv-loop infer-expr-μ-loop
-infer-expr-step-requires t c κs = infer-step (c .before .before .before .before .before .before .before .before .before .before .before .before .before .before .before .before .before .before .before .before .before .before .before .before .before .before .before .before .before .before .pre .1) (c .before .before .before .before .before .before .before .before .before .before .before .before .before .before .before .before .before .before .loop .inv) (c .before .before .before .before .before .before .before .before .before .before .before .before .before .before .before .before .before .before .before .before .before .start .ensures .0) (c .before .before .before .before .before .before .before .before .before .before .before .before .before .before .before .before .before .before .before .before .before .before .before .before .before .kids-of .ensures) (c .before .before .before .before .before .before .before .before .before .before .before .before .before .before .before .before .before .loop-test .taken) _ (c .before .before .before .before .before .before .before .before .before .before .before .before .before .before .before .before .read-line .ensures) (c .before .before .before .before .before .before .before .before .before .before .before .before .before .check-tree .ensures) (c .before .before .before .before .before .before .before .len .given .1) (c .before .before .before .held .ensures) (c .before .before .before .before .spelt .ensures) (c .before .before .before .before .before .before .before .before .before .before .before .before .before .before .before .before .before .before .before .before .before .before .before .before .rule-of .ensures) (c .before .before .before .before .before .role-of .ensures)
+infer-expr-step-requires t c κs = infer-step (c .before .before .before .before .before .before .before .before .before .before .before .before .before .before .before .before .before .before .before .before .before .before .before .before .before .before .before .before .before .before .pre .1) (c .before .before .before .before .before .before .before .before .before .before .before .before .before .before .before .before .before .before .loop .inv) (c .before .before .before .before .before .before .before .before .before .before .before .before .before .before .before .before .before .before .before .before .before .start .ensures .0) (c .before .before .before .before .before .before .before .before .before .before .before .before .before .before .before .before .before .before .before .before .before .before .before .before .before .kids-of .ensures) (c .before .before .before .before .before .before .before .before .before .before .before .before .before .before .before .before .before .loop-test .taken) _ (c .before .before .before .before .before .before .before .before .before .before .before .before .before .before .before .before .read-line .ensures) (c .before .before .before .before .before .before .before .before .before .before .before .before .before .check-tree .ensures) (c .before .before .before .before .before .before .before .len .given .1) (c .before .before .before .before-child .ensures) (c .before .before .before .before .spelt .ensures) (c .before .before .before .before .before .before .before .before .before .before .before .before .before .before .before .before .before .before .before .before .before .before .before .before .rule-of .ensures) (c .before .before .before .before .before .role-of .ensures)
 
 infer-expr-enum-known-s : (t : ℕ) → infer-expr-lts.Need-enum-known-s (infer-expr-claims t) (infer-expr-at t) infer-expr.Post infer-expr-Inv-loop infer-expr-μ-loop
 infer-expr-enum-known-s t c = search needs
@@ -287,13 +287,13 @@ infer-expr-enum-told : (t : ℕ) → infer-expr-lts.Need-enum-told (infer-expr-c
 infer-expr-enum-told t c = search needs
 
 infer-expr-same-length : (t : ℕ) → infer-expr-lts.Need-same-length (infer-expr-claims t) (infer-expr-at t) infer-expr.Post infer-expr-Inv-loop infer-expr-μ-loop
-infer-expr-same-length t c = infer-after (c .before .before .before .before .before .before .before .before .before .before .before .before .before .before .before .before .before .before .before .before .before .before .before .before .before .before .before .before .before .before .before .before .before .before .before .before .before .pre .1) (c .before .before .before .before .before .before .before .before .before .before .before .before .before .before .before .before .before .before .before .before .before .before .before .before .before .loop .inv) (c .before .before .before .before .before .before .before .before .before .before .before .before .before .before .before .before .before .before .before .before .before .before .before .before .before .before .before .before .start .ensures .0) (c .before .before .before .before .before .before .before .before .before .before .before .before .before .before .before .before .before .before .before .before .before .before .before .before .before .before .before .before .before .before .before .before .kids-of .ensures) (c .before .before .before .before .before .before .before .before .before .before .before .before .before .before .before .before .before .before .before .before .before .before .before .before .loop-test .taken) _ (c .before .before .before .before .before .before .before .before .before .before .before .before .before .before .before .before .before .before .before .before .before .before .before .read-line .ensures) (c .before .before .before .before .before .before .before .before .before .before .before .before .before .before .before .before .before .before .before .before .check-tree .ensures) (c .before .before .before .before .before .before .before .before .before .before .before .before .before .before .len .given .1) (c .before .before .before .before .before .before .before .before .before .before .held .ensures) (c .before .before .before .before .before .before .before .before .before .before .before .spelt .ensures) (c .before .before .before .before .before .before .before .before .before .before .before .before .before .before .before .before .before .before .before .before .before .before .before .before .before .before .before .before .before .before .before .rule-of .ensures) (c .before .before .before .before .before .before .before .before .before .before .before .before .role-of .ensures) (c .before .before .before .before .before .before .step .ensures) .0 ∙ c .before .before .before .before .before .before .before .before .before .before .before .before .before .before .before .before .before .before .before .before .before .before .before .before .before .loop .inv .long ∙ c .before .before .before .before .before .before .before .before .before .before .before .before .before .before .before .before .before .before .before .before .before .before .before .before .before .before .before .before .start .ensures .0
+infer-expr-same-length t c = infer-after (c .before .before .before .before .before .before .before .before .before .before .before .before .before .before .before .before .before .before .before .before .before .before .before .before .before .before .before .before .before .before .before .before .before .before .before .before .before .pre .1) (c .before .before .before .before .before .before .before .before .before .before .before .before .before .before .before .before .before .before .before .before .before .before .before .before .before .loop .inv) (c .before .before .before .before .before .before .before .before .before .before .before .before .before .before .before .before .before .before .before .before .before .before .before .before .before .before .before .before .start .ensures .0) (c .before .before .before .before .before .before .before .before .before .before .before .before .before .before .before .before .before .before .before .before .before .before .before .before .before .before .before .before .before .before .before .before .kids-of .ensures) (c .before .before .before .before .before .before .before .before .before .before .before .before .before .before .before .before .before .before .before .before .before .before .before .before .loop-test .taken) _ (c .before .before .before .before .before .before .before .before .before .before .before .before .before .before .before .before .before .before .before .before .before .before .before .read-line .ensures) (c .before .before .before .before .before .before .before .before .before .before .before .before .before .before .before .before .before .before .before .before .check-tree .ensures) (c .before .before .before .before .before .before .before .before .before .before .before .before .before .before .len .given .1) (c .before .before .before .before .before .before .before .before .before .before .before-child .ensures) (c .before .before .before .before .before .before .before .before .before .before .before .spelt .ensures) (c .before .before .before .before .before .before .before .before .before .before .before .before .before .before .before .before .before .before .before .before .before .before .before .before .before .before .before .before .before .before .before .rule-of .ensures) (c .before .before .before .before .before .before .before .before .before .before .before .before .role-of .ensures) (c .before .before .before .before .before .before .step .ensures) .0 ∙ c .before .before .before .before .before .before .before .before .before .before .before .before .before .before .before .before .before .before .before .before .before .before .before .before .before .loop .inv .long ∙ c .before .before .before .before .before .before .before .before .before .before .before .before .before .before .before .before .before .before .before .before .before .before .before .before .before .before .before .before .start .ensures .0
 
 infer-expr-same-length-2 : (t : ℕ) → infer-expr-lts.Need-same-length-2 (infer-expr-claims t) (infer-expr-at t) infer-expr.Post infer-expr-Inv-loop infer-expr-μ-loop
-infer-expr-same-length-2 t c = infer-after (c .before .before .before .before .before .before .before .before .before .before .before .before .before .before .before .before .before .before .before .before .before .before .before .before .before .before .before .before .before .before .before .before .before .before .before .before .before .pre .1) (c .before .before .before .before .before .before .before .before .before .before .before .before .before .before .before .before .before .before .before .before .before .before .before .before .before .loop .inv) (c .before .before .before .before .before .before .before .before .before .before .before .before .before .before .before .before .before .before .before .before .before .before .before .before .before .before .before .before .start .ensures .0) (c .before .before .before .before .before .before .before .before .before .before .before .before .before .before .before .before .before .before .before .before .before .before .before .before .before .before .before .before .before .before .before .before .kids-of .ensures) (c .before .before .before .before .before .before .before .before .before .before .before .before .before .before .before .before .before .before .before .before .before .before .before .before .loop-test .taken) _ (c .before .before .before .before .before .before .before .before .before .before .before .before .before .before .before .before .before .before .before .before .before .before .before .read-line .ensures) (c .before .before .before .before .before .before .before .before .before .before .before .before .before .before .before .before .before .before .before .before .check-tree .ensures) (c .before .before .before .before .before .before .before .before .before .before .before .before .before .before .len .given .1) (c .before .before .before .before .before .before .before .before .before .before .held .ensures) (c .before .before .before .before .before .before .before .before .before .before .before .spelt .ensures) (c .before .before .before .before .before .before .before .before .before .before .before .before .before .before .before .before .before .before .before .before .before .before .before .before .before .before .before .before .before .before .before .rule-of .ensures) (c .before .before .before .before .before .before .before .before .before .before .before .before .role-of .ensures) (c .before .before .before .before .before .before .step .ensures) .1
+infer-expr-same-length-2 t c = infer-after (c .before .before .before .before .before .before .before .before .before .before .before .before .before .before .before .before .before .before .before .before .before .before .before .before .before .before .before .before .before .before .before .before .before .before .before .before .before .pre .1) (c .before .before .before .before .before .before .before .before .before .before .before .before .before .before .before .before .before .before .before .before .before .before .before .before .before .loop .inv) (c .before .before .before .before .before .before .before .before .before .before .before .before .before .before .before .before .before .before .before .before .before .before .before .before .before .before .before .before .start .ensures .0) (c .before .before .before .before .before .before .before .before .before .before .before .before .before .before .before .before .before .before .before .before .before .before .before .before .before .before .before .before .before .before .before .before .kids-of .ensures) (c .before .before .before .before .before .before .before .before .before .before .before .before .before .before .before .before .before .before .before .before .before .before .before .before .loop-test .taken) _ (c .before .before .before .before .before .before .before .before .before .before .before .before .before .before .before .before .before .before .before .before .before .before .before .read-line .ensures) (c .before .before .before .before .before .before .before .before .before .before .before .before .before .before .before .before .before .before .before .before .check-tree .ensures) (c .before .before .before .before .before .before .before .before .before .before .before .before .before .before .len .given .1) (c .before .before .before .before .before .before .before .before .before .before .before-child .ensures) (c .before .before .before .before .before .before .before .before .before .before .before .spelt .ensures) (c .before .before .before .before .before .before .before .before .before .before .before .before .before .before .before .before .before .before .before .before .before .before .before .before .before .before .before .before .before .before .before .rule-of .ensures) (c .before .before .before .before .before .before .before .before .before .before .before .before .role-of .ensures) (c .before .before .before .before .before .before .step .ensures) .1
 
 infer-expr-returns : (t : ℕ) → infer-expr-lts.Need-returns (infer-expr-claims t) (infer-expr-at t) infer-expr.Post infer-expr-Inv-loop infer-expr-μ-loop
-infer-expr-returns t c = infer-large (c .before .before .before .before .before .before .before .before .before .before .before .before .before .before .before .before .before .before .before .before .before .before .before .before .before .before .before .before .before .before .before .before .before .before .before .before .before .pre .1) (c .before .before .before .before .before .before .before .before .before .before .before .before .before .before .before .before .before .before .before .before .before .before .before .before .before .loop .inv) (c .before .before .before .before .before .before .before .before .before .before .before .before .before .before .before .before .before .before .before .before .before .before .before .before .before .before .before .before .start .ensures .0) (c .before .before .before .before .before .before .before .before .before .before .before .before .before .before .before .before .before .before .before .before .before .before .before .before .before .before .before .before .before .before .before .before .kids-of .ensures) (c .before .before .before .before .before .before .before .before .before .before .before .before .before .before .before .before .before .before .before .before .before .before .before .before .loop-test .taken) _ (c .before .before .before .before .before .before .before .before .before .before .before .before .before .before .before .before .before .before .before .before .before .before .before .read-line .ensures) (c .before .before .before .before .before .before .before .before .before .before .before .before .before .before .before .before .before .before .before .before .check-tree .ensures) (c .before .before .before .before .before .before .before .before .before .before .before .before .before .before .len .given .1) (c .before .before .before .before .before .before .before .before .before .before .held .ensures) (c .before .before .before .before .before .before .before .before .before .before .before .spelt .ensures) (c .before .before .before .before .before .before .before .before .before .before .before .before .before .before .before .before .before .before .before .before .before .before .before .before .before .before .before .before .before .before .before .rule-of .ensures) (c .before .before .before .before .before .before .before .before .before .before .before .before .role-of .ensures) (c .before .before .before .before .before .before .step .ensures) (c .enum-told .given .1)
+infer-expr-returns t c = infer-large (c .before .before .before .before .before .before .before .before .before .before .before .before .before .before .before .before .before .before .before .before .before .before .before .before .before .before .before .before .before .before .before .before .before .before .before .before .before .pre .1) (c .before .before .before .before .before .before .before .before .before .before .before .before .before .before .before .before .before .before .before .before .before .before .before .before .before .loop .inv) (c .before .before .before .before .before .before .before .before .before .before .before .before .before .before .before .before .before .before .before .before .before .before .before .before .before .before .before .before .start .ensures .0) (c .before .before .before .before .before .before .before .before .before .before .before .before .before .before .before .before .before .before .before .before .before .before .before .before .before .before .before .before .before .before .before .before .kids-of .ensures) (c .before .before .before .before .before .before .before .before .before .before .before .before .before .before .before .before .before .before .before .before .before .before .before .before .loop-test .taken) _ (c .before .before .before .before .before .before .before .before .before .before .before .before .before .before .before .before .before .before .before .before .before .before .before .read-line .ensures) (c .before .before .before .before .before .before .before .before .before .before .before .before .before .before .before .before .before .before .before .before .check-tree .ensures) (c .before .before .before .before .before .before .before .before .before .before .before .before .before .before .len .given .1) (c .before .before .before .before .before .before .before .before .before .before .before-child .ensures) (c .before .before .before .before .before .before .before .before .before .before .before .spelt .ensures) (c .before .before .before .before .before .before .before .before .before .before .before .before .before .before .before .before .before .before .before .before .before .before .before .before .before .before .before .before .before .before .before .rule-of .ensures) (c .before .before .before .before .before .before .before .before .before .before .before .before .role-of .ensures) (c .before .before .before .before .before .before .step .ensures) (c .enum-told .given .1)
 
 infer-expr-enum-known-l : (t : ℕ) → infer-expr-lts.Need-enum-known-l (infer-expr-claims t) (infer-expr-at t) infer-expr.Post infer-expr-Inv-loop infer-expr-μ-loop
 infer-expr-enum-known-l t c = search needs
@@ -314,7 +314,7 @@ infer-expr-loop-less : (t : ℕ) → infer-expr-lts.Need-loop-less (infer-expr-c
 infer-expr-loop-less t c = omega (arith, c .before .before .before .before .before .before .before .before .before .before .before .before .before .before .before .before .before .before .before .before .before .before .before .before .before .loop-test .taken)
 
 infer-expr-loop-again : (t : ℕ) → infer-expr-lts.Need-loop-again (infer-expr-claims t) (infer-expr-at t) infer-expr.Post infer-expr-Inv-loop infer-expr-μ-loop
-infer-expr-loop-again t c = infer-on (c .before .before .before .before .before .before .before .before .before .before .before .before .before .before .before .before .before .before .before .before .before .before .before .before .before .before .before .before .before .before .before .before .before .before .before .before .before .before .pre .1) (c .before .before .before .before .before .before .before .before .before .before .before .before .before .before .before .before .before .before .before .before .before .before .before .before .before .before .loop .inv) (c .before .before .before .before .before .before .before .before .before .before .before .before .before .before .before .before .before .before .before .before .before .before .before .before .before .before .before .before .before .start .ensures .0) (c .before .before .before .before .before .before .before .before .before .before .before .before .before .before .before .before .before .before .before .before .before .before .before .before .before .before .before .before .before .before .before .before .before .kids-of .ensures) (c .before .before .before .before .before .before .before .before .before .before .before .before .before .before .before .before .before .before .before .before .before .before .before .before .before .loop-test .taken) _ (c .before .before .before .before .before .before .before .before .before .before .before .before .before .before .before .before .before .before .before .before .before .before .before .before .read-line .ensures) (c .before .before .before .before .before .before .before .before .before .before .before .before .before .before .before .before .before .before .before .before .before .check-tree .ensures) (c .before .before .before .before .before .before .before .before .before .before .before .before .before .before .before .len .given .1) (c .before .before .before .before .before .before .before .before .before .before .before .held .ensures) (c .before .before .before .before .before .before .before .before .before .before .before .before .spelt .ensures) (c .before .before .before .before .before .before .before .before .before .before .before .before .before .before .before .before .before .before .before .before .before .before .before .before .before .before .before .before .before .before .before .before .rule-of .ensures) (c .before .before .before .before .before .before .before .before .before .before .before .before .before .role-of .ensures) (c .before .before .before .before .before .before .before .step .ensures) (c .before .s .given .1)
+infer-expr-loop-again t c = infer-on (c .before .before .before .before .before .before .before .before .before .before .before .before .before .before .before .before .before .before .before .before .before .before .before .before .before .before .before .before .before .before .before .before .before .before .before .before .before .before .pre .1) (c .before .before .before .before .before .before .before .before .before .before .before .before .before .before .before .before .before .before .before .before .before .before .before .before .before .before .loop .inv) (c .before .before .before .before .before .before .before .before .before .before .before .before .before .before .before .before .before .before .before .before .before .before .before .before .before .before .before .before .before .start .ensures .0) (c .before .before .before .before .before .before .before .before .before .before .before .before .before .before .before .before .before .before .before .before .before .before .before .before .before .before .before .before .before .before .before .before .before .kids-of .ensures) (c .before .before .before .before .before .before .before .before .before .before .before .before .before .before .before .before .before .before .before .before .before .before .before .before .before .loop-test .taken) _ (c .before .before .before .before .before .before .before .before .before .before .before .before .before .before .before .before .before .before .before .before .before .before .before .before .read-line .ensures) (c .before .before .before .before .before .before .before .before .before .before .before .before .before .before .before .before .before .before .before .before .before .check-tree .ensures) (c .before .before .before .before .before .before .before .before .before .before .before .before .before .before .before .len .given .1) (c .before .before .before .before .before .before .before .before .before .before .before .before-child .ensures) (c .before .before .before .before .before .before .before .before .before .before .before .before .spelt .ensures) (c .before .before .before .before .before .before .before .before .before .before .before .before .before .before .before .before .before .before .before .before .before .before .before .before .before .before .before .before .before .before .before .before .rule-of .ensures) (c .before .before .before .before .before .before .before .before .before .before .before .before .before .role-of .ensures) (c .before .before .before .before .before .before .before .step .ensures) (c .before .s .given .1)
 
 infer-expr-finish-requires : (t : ℕ) → infer-expr-lts.Need-finish-requires (infer-expr-claims t) (infer-expr-at t) infer-expr.Post infer-expr-Inv-loop infer-expr-μ-loop
 infer-expr-finish-requires t c κs = infer-finish (c .before .before .before .before .before .before .before .before .before .before .before .before .before .before .before .pre .1) (c .before .before .before .loop .inv) (c .before .before .before .before .before .before .start .ensures .0) (c .before .before .before .before .before .before .before .before .before .before .kids-of .ensures) (c .before .before .loop-test .left)
@@ -400,7 +400,7 @@ pub +check-pattern+check-tree+infer-expr-spec : {M : Type 1} → statement M
     (infer-expr-enum-known-len t)
     (infer-expr-role-of-requires t)
     (infer-expr-spelt-requires t)
-    (infer-expr-held-requires t)
+    (infer-expr-before-child-requires t)
     (infer-expr-sub-step t)
     (infer-expr-part-step-start t)
     (infer-expr-part-step-end t)

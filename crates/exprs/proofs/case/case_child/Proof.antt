@@ -1,8 +1,8 @@
--- `keep_answer`: only an answer joins the union. Assumes nothing.
+-- `case_child`: only an answer joins the union. Assumes nothing.
 use borrow.Author.Needs.{needs}
 use Rattle.exprs.proofs.ChildLaws.{answer-kept, answer-other}
-use Rattle.exprs.proofs.case.keep_answer.Statement.{statement}
-use Rattle.exprs.proofs.case.keep_answer.Tie as tie
+use Rattle.exprs.proofs.case.case_child.Statement.{statement}
+use Rattle.exprs.proofs.case.case_child.Tie as tie
 
 case-arm-requires : tie.Need-case-arm-requires
 case-arm-requires c κs = c .before .before .before .pre
@@ -16,8 +16,8 @@ returns c = answer-kept (c .before .before .before .before .if1 .taken) (c .befo
 returns-2 : tie.Need-returns-2
 returns-2 c = answer-other (c .if1 .left)
 
-pub keep-answer-spec : {M : Type 1} → statement M
-keep-answer-spec =
+pub case-child-spec : {M : Type 1} → statement M
+case-child-spec =
     tie.close
     (tie.spec
     case-arm-requires

@@ -1,10 +1,10 @@
--- `end_last`: by what `fits` says. Assumes nothing.
+-- `end_comprehension`: by what `fits` says. Assumes nothing.
 use Rattle.exprs.proofs.States.{last-inside, last-line, last-typed, last-large}
 use lib.Seq.{length-take-le}
 use mathlib.Core.Path.{sym}
 use native.Mathlib.Omega.{arith}
-use Rattle.exprs.proofs.comprehension.end_last.Statement.{statement}
-use Rattle.exprs.proofs.comprehension.end_last.Tie as tie
+use Rattle.exprs.proofs.comprehension.end_comprehension.Statement.{statement}
+use Rattle.exprs.proofs.comprehension.end_comprehension.Tie as tie
 
 add-n : tie.Need-add-n
 add-n c = omega (arith, last-inside (c .before .before .before .pre))
@@ -21,5 +21,5 @@ returns c = λ t k. last-typed _ (c .before .fits2 .ensures) t k (c .if1 .taken)
 returns-2 : tie.Need-returns-2
 returns-2 c = λ t k. last-large _ (c .before .fits2 .ensures) t k (c .if1 .left)
 
-pub end-last-spec : {M : Type 1} → statement M
-end-last-spec = tie.close (tie.spec add-n slice-aggregate-fits fits-requires returns returns-2)
+pub end-comprehension-spec : {M : Type 1} → statement M
+end-comprehension-spec = tie.close (tie.spec add-n slice-aggregate-fits fits-requires returns returns-2)

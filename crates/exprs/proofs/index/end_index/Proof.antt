@@ -1,4 +1,4 @@
--- `end_element`: by the first byte. Assumes nothing.
+-- `end_index`: by the first byte. Assumes nothing.
 use Rattle.exprs.proofs.States.{kept-at, element-line, element-long, element-list, element-any}
 use Rattle.ty.proofs.KindLaws.{two-at}
 use lib.Seq.{length-take-le}
@@ -6,8 +6,8 @@ use mathlib.Core.Path.{sym}
 use mathlib.Core.Logic.{inl}
 use native.Mathlib.Omega.{arith}
 use borrow.Author.Needs.{needs}
-use Rattle.exprs.proofs.index.end_element.Statement.{statement}
-use Rattle.exprs.proofs.index.end_element.Tie as tie
+use Rattle.exprs.proofs.index.end_index.Statement.{statement}
+use Rattle.exprs.proofs.index.end_index.Tie as tie
 
 slice-read-if1 : tie.Need-slice-read-if1
 slice-read-if1 c = search needs
@@ -44,8 +44,8 @@ same-length-2 c = search needs
 returns-2 : tie.Need-returns-2
 returns-2 c = (search needs, λ t k. element-any k (c .before .before .before .before .if1 .left) (c .before .before .put-letter .ensures) .at)
 
-pub end-element-spec : {M : Type 1} → statement M
-end-element-spec =
+pub end-index-spec : {M : Type 1} → statement M
+end-index-spec =
     tie.close
     (tie.spec
     slice-read-if1
