@@ -17,7 +17,9 @@ FIELDS |= {"upto 1": 1, "upto 2": 2, "upto 3": 3, "upto 19": 4}
 RULES = "varType element slice listing mapping calling operator unary casing membership comprehension".split()
 RULE_NAMES = "CONSTANT VARIABLE ELEMENT SLICE LISTING MAPPING CALL OPERATOR UNARY CASING MEMBERSHIP COMPREHENSION SILENT ENTRY".split()
 LETTER_NAMES = "ANY NULL BOOL INT FLOAT NUM STRING DATE DATETIME LIST MAP NODE RELATIONSHIP PATH UNION UNKNOWN".split()
-LETTERS = dict(re.findall(r"^letter (t\w+) = (\d+)$", (CRATES / "semantics" / "specs" / "Ty.antt").read_text(), re.M))
+SPECS = CRATES / "semantics" / "specs"
+CODES = dict(re.findall(r"^(\w+) = (\d+)$", (SPECS / "Codes.antt").read_text(), re.M))
+LETTERS = {base: CODES[code] for base, code in re.findall(r"^letter (t\w+) = (\w+)$", (SPECS / "Ty.antt").read_text(), re.M)}
 changed = []
 # up to the end of a file
 END = ""

@@ -7,7 +7,7 @@ use native.Mathlib.Omega.{arith}
 use lib.ListN.{length, take, drop, getD}
 use Rattle.semantics.specs.Bytes.{lex, same}
 use Rattle.semantics.specs.Ty.{Base, tAny, tNull, tBool, tInt, tFloat, tNum, tString, tDate, tDatetime, tPath, tUnknown, Ty, base, tList, tMap, tNode, tRelationship, tUnion, letter, among, matches, lineTo, line, equal, nesting}
-use Rattle.semantics.specs.Unify.{tested, pair, arms, unifyIn, unify}
+use Rattle.semantics.specs.Unify.{tested, meeting, pair, arms, unifyIn, unify}
 use Rattle.semantics.specs.Sheet.{BIN, Head, row, roles, arity}
 use Rattle.semantics.specs.Walk.{Res, Env, Op, arithmetic, comparison, equality, boolean, string, concat, op, opType, opFaults, numeric, meets, orElse, typeBy, typeOf, asked, spread, ownBy, own, topsBy, label, step, walk}
 use Rattle.rewording.specs.Reword.{mk, Each, no-more, more, Whole}
@@ -49,7 +49,7 @@ abbrev sum5 : Num5 → Num5 → Ty
 sum5 x y = orElse (base tUnknown) (unify (of5 x) (of5 y) .answer)
 
 unify5 : (x y : Num5) → sum5 x y ≡ sum5 y x
-unfolding unify unifyIn tested arms pair among matches equal same lex line lineTo letter nesting
+unfolding unify unifyIn tested arms pair meeting among matches equal same lex line lineTo letter nesting
 unify5 any5 any5 = refl
 unify5 any5 int5 = refl
 unify5 any5 float5 = refl

@@ -8,7 +8,8 @@ use native.Mathlib.Nat.{le-refl}
 use native.Mathlib.Omega.{arith}
 use Rattle.semantics.specs.Bytes.{Bytes, same}
 use Rattle.semantics.specs.Ty.{tAny, tNull, tUnknown, Ty, base, tList, tMap, tNode, tRelationship, tUnion, Tys, ∅, _⊕_, Fields, ∅ᶠ, field, members, matches, equal, nesting, nestingS, nestingF, setField, getField}
-use Rattle.semantics.specs.Unify.{Unified, gives, unites, onAgreed, onField, tested, unifyMaps, variantsWith, widened, unifyUnionWith, pair, arms, unifyIn, unify}
+use Rattle.semantics.specs.Unify.{Unified, gives, unites, onAgreed, onField, tested, unifyMaps, variantsWith, widened, unifyUnionWith, Meeting, pair, arms, unifyIn, unify}
+use Rattle.semantics.proofs.Meetings.{Met, two-numbers, two-lists, two-maps, two-nodes, two-relationships, two-unions, union-left, union-right, no-rule, met}
 
 -- ## Two functions that agree below a bound on the nesting of both arguments
 
@@ -48,44 +49,17 @@ module _ (k : ℕ) (f g : Ty → Ty → Unified) (h : Below k f g) where
   maps-cong all (field n t fs) gs done l =
       field-cong (nestingF gs) t (getField n gs) (omega arith) (get-within (nestingF gs) n gs (le-refl (nestingF gs))) (λ u. maps-cong all fs gs (setField n u done) (omega arith))
 
-  pair-cong : (a b : Ty) → nesting a + nesting b ≤ k → pair f a b ≡ pair g a b
+  pair-cong : {a b : Ty} {m : Meeting} → Met a b m → nesting a + nesting b ≤ k → pair f m ≡ pair g m
   unfolding pair nesting
-  pair-cong (base c) (base d) l = refl
-  pair-cong (base c) (tList u) l = refl
-  pair-cong (base c) (tMap gs) l = refl
-  pair-cong (base c) (tNode ks) l = refl
-  pair-cong (base c) (tRelationship n) l = refl
-  pair-cong (base c) (tUnion us) l = union-cong (base c) us (omega arith)
-  pair-cong (tList t) (base d) l = refl
-  pair-cong (tList t) (tList u) l = ap (λ z. onAgreed z (λ v. gives [] (tList v))) (h t u (omega arith))
-  pair-cong (tList t) (tMap gs) l = refl
-  pair-cong (tList t) (tNode ks) l = refl
-  pair-cong (tList t) (tRelationship n) l = refl
-  pair-cong (tList t) (tUnion us) l = union-cong (tList t) us (omega arith)
-  pair-cong (tMap fs) (base d) l = refl
-  pair-cong (tMap fs) (tList u) l = refl
-  pair-cong (tMap fs) (tMap gs) l = maps-cong fs fs gs ∅ᶠ (omega arith)
-  pair-cong (tMap fs) (tNode ks) l = refl
-  pair-cong (tMap fs) (tRelationship n) l = refl
-  pair-cong (tMap fs) (tUnion us) l = union-cong (tMap fs) us (omega arith)
-  pair-cong (tNode ls) (base d) l = refl
-  pair-cong (tNode ls) (tList u) l = refl
-  pair-cong (tNode ls) (tMap gs) l = refl
-  pair-cong (tNode ls) (tNode ks) l = refl
-  pair-cong (tNode ls) (tRelationship n) l = refl
-  pair-cong (tNode ls) (tUnion us) l = union-cong (tNode ls) us (omega arith)
-  pair-cong (tRelationship m) (base d) l = refl
-  pair-cong (tRelationship m) (tList u) l = refl
-  pair-cong (tRelationship m) (tMap gs) l = refl
-  pair-cong (tRelationship m) (tNode ks) l = refl
-  pair-cong (tRelationship m) (tRelationship n) l = refl
-  pair-cong (tRelationship m) (tUnion us) l = union-cong (tRelationship m) us (omega arith)
-  pair-cong (tUnion ts) (base d) l = union-cong (base d) ts (omega arith)
-  pair-cong (tUnion ts) (tList u) l = union-cong (tList u) ts (omega arith)
-  pair-cong (tUnion ts) (tMap gs) l = union-cong (tMap gs) ts (omega arith)
-  pair-cong (tUnion ts) (tNode ks) l = union-cong (tNode ks) ts (omega arith)
-  pair-cong (tUnion ts) (tRelationship n) l = union-cong (tRelationship n) ts (omega arith)
-  pair-cong (tUnion ts) (tUnion us) l = union-cong (tUnion us) ts (omega arith)
+  pair-cong (two-numbers c d p q) l = refl
+  pair-cong (two-lists t u) l = ap (λ z. onAgreed z (λ v. gives [] (tList v))) (h t u (omega arith))
+  pair-cong (two-maps fs gs) l = maps-cong fs fs gs ∅ᶠ (omega arith)
+  pair-cong (two-nodes ls ks) l = refl
+  pair-cong (two-relationships m n) l = refl
+  pair-cong (two-unions ts us) l = union-cong (tUnion us) ts (omega arith)
+  pair-cong (union-left ts u p) l = union-cong u ts (omega arith)
+  pair-cong (union-right t us p) l = union-cong t us (omega arith)
+  pair-cong (no-rule c d e) l = refl
 
 else : {A : Type 0} (c : Bool) (x : A) {y z : A} → y ≡ z → _≡_ {A = A} (elim c [ true ↦ x | false ↦ y ]) (elim c [ true ↦ x | false ↦ z ])
 else true x e = refl
@@ -94,7 +68,7 @@ else false x e = e
 pub arms-cong : (f g : Ty → Ty → Unified) (a b : Ty) → Below (nesting a + nesting b) f g → arms f a b ≡ arms g a b
 unfolding arms
 arms-cong f g a b h =
-    let inner = pair-cong (nesting a + nesting b) f g h a b (le-refl (nesting a + nesting b)) in
+    let inner = pair-cong (nesting a + nesting b) f g h (met a b) (le-refl (nesting a + nesting b)) in
     let null-right = else (matches b (tNull ∷ [])) (unites [] (base tNull ∷ a ∷ [])) inner in
     let null-left = else (matches a (tNull ∷ [])) (unites [] (base tNull ∷ b ∷ [])) null-right in
     let unknown = else (matches a (tUnknown ∷ []) || matches b (tUnknown ∷ [])) (gives [] (base tUnknown)) (else (equal a b) (gives [] a) null-left) in

@@ -6,6 +6,7 @@ pub mod Order
 pub mod All
 pub mod Words
 pub mod Regular
+pub mod Meetings
 pub mod RegularUnify
 pub mod RegularWalk
 pub mod Causes

@@ -2,12 +2,13 @@
 use mathlib.Core.Path.{_≡_, refl, subst}
 use mathlib.Core.List.{List, [], _∷_}
 use mathlib.Core.Option.{Option, none, some}
-use mathlib.Core.Bool.{_&&_, _||_}
+use mathlib.Core.Bool.{_||_}
 use Prim.Native.Nat.{ℕ, suc, zero, _+_}
 use Rattle.semantics.specs.Bytes.{Bytes, same}
-use Rattle.semantics.specs.Ty.{tAny, tNull, tUnknown, Ty, base, tList, tMap, tNode, tRelationship, tUnion, Tys, Fields, ∅ᶠ, field, members, among, matches, equal, nesting, setField, getField, insertNames}
-use Rattle.semantics.specs.Unify.{Answer, agreed, mismatch, Unified, gives, onAgreed, tested, onField, extras, unifyMaps, unifyLabelSets, Variants, variantsWith, widened, unifyUnionWith, numbers, pair, arms, unifyIn, unify}
+use Rattle.semantics.specs.Ty.{tAny, tNull, tUnknown, Ty, tList, tMap, tUnion, Tys, Fields, ∅ᶠ, field, members, matches, equal, nesting, setField, getField, insertNames}
+use Rattle.semantics.specs.Unify.{Answer, agreed, mismatch, Unified, gives, onAgreed, tested, onField, extras, unifyMaps, unifyLabelSets, Variants, variantsWith, widened, unifyUnionWith, Meeting, pair, arms, unifyIn, unify}
 use Rattle.semantics.proofs.All.{All, empty, also, all-weaken, all-append, either}
+use Rattle.semantics.proofs.Meetings.{Met, two-numbers, two-lists, two-maps, two-nodes, two-relationships, two-unions, union-left, union-right, no-rule, met}
 use Rattle.semantics.proofs.Regular.{AscendingLabels, names-ascend, Regular, RegularF, regular-members, unite-regular, no-entries, set-regular}
 
 -- an answer whose types are regular
@@ -103,44 +104,17 @@ union-regular rec k other h {vs} a = widened-regular vs other (variantsWith (λ 
 
 -- ## The arms
 
-pair-regular : (rec : Ty → Ty → Unified) → Keeps rec → (a b : Ty) → Regular a → Regular b → RegularUnified (pair rec a b)
+pair-regular : (rec : Ty → Ty → Unified) → Keeps rec → {a b : Ty} {m : Meeting} → Met a b m → Regular a → Regular b → RegularUnified (pair rec m)
 unfolding pair
-pair-regular rec k (base b) (base c) p q = either RegularUnified (among b numbers && among c numbers) tt (tt, tt)
-pair-regular rec k (base b) (tList u) p q = (p, q)
-pair-regular rec k (base b) (tMap gs) p q = (p, q)
-pair-regular rec k (base b) (tNode ks) p q = (p, q)
-pair-regular rec k (base b) (tRelationship n) p q = (p, q)
-pair-regular rec k (base b) (tUnion us) p q = union-regular rec k (base b) p (union-members us q)
-pair-regular rec k (tList t) (base c) p q = (p, q)
-pair-regular rec k (tList t) (tList u) p q = agreed-regular (rec t u) (λ v. gives [] (tList v)) (k t u p q) (λ v h. h)
-pair-regular rec k (tList t) (tMap gs) p q = (p, q)
-pair-regular rec k (tList t) (tNode ks) p q = (p, q)
-pair-regular rec k (tList t) (tRelationship n) p q = (p, q)
-pair-regular rec k (tList t) (tUnion us) p q = union-regular rec k (tList t) p (union-members us q)
-pair-regular rec k (tMap fs) (base c) p q = (p, q)
-pair-regular rec k (tMap fs) (tList u) p q = (p, q)
-pair-regular rec k (tMap fs) (tMap gs) p q = maps-regular rec k fs gs fs ∅ᶠ (q .1) (p .1) no-entries
-pair-regular rec k (tMap fs) (tNode ks) p q = (p, q)
-pair-regular rec k (tMap fs) (tRelationship n) p q = (p, q)
-pair-regular rec k (tMap fs) (tUnion us) p q = union-regular rec k (tMap fs) p (union-members us q)
-pair-regular rec k (tNode ls) (base c) p q = (p, q)
-pair-regular rec k (tNode ls) (tList u) p q = (p, q)
-pair-regular rec k (tNode ls) (tMap gs) p q = (p, q)
-pair-regular rec k (tNode ls) (tNode ks) p q = labels-regular ls ks
-pair-regular rec k (tNode ls) (tRelationship n) p q = (p, q)
-pair-regular rec k (tNode ls) (tUnion us) p q = union-regular rec k (tNode ls) p (union-members us q)
-pair-regular rec k (tRelationship m) (base c) p q = (p, q)
-pair-regular rec k (tRelationship m) (tList u) p q = (p, q)
-pair-regular rec k (tRelationship m) (tMap gs) p q = (p, q)
-pair-regular rec k (tRelationship m) (tNode ks) p q = (p, q)
-pair-regular rec k (tRelationship m) (tRelationship n) p q = tt
-pair-regular rec k (tRelationship m) (tUnion us) p q = union-regular rec k (tRelationship m) p (union-members us q)
-pair-regular rec k (tUnion ts) (base c) p q = union-regular rec k (base c) q (union-members ts p)
-pair-regular rec k (tUnion ts) (tList u) p q = union-regular rec k (tList u) q (union-members ts p)
-pair-regular rec k (tUnion ts) (tMap gs) p q = union-regular rec k (tMap gs) q (union-members ts p)
-pair-regular rec k (tUnion ts) (tNode ks) p q = union-regular rec k (tNode ks) q (union-members ts p)
-pair-regular rec k (tUnion ts) (tRelationship n) p q = union-regular rec k (tRelationship n) q (union-members ts p)
-pair-regular rec k (tUnion ts) (tUnion us) p q = union-regular rec k (tUnion us) q (union-members ts p)
+pair-regular rec k (two-numbers b c x y) p q = tt
+pair-regular rec k (two-lists t u) p q = agreed-regular (rec t u) (λ v. gives [] (tList v)) (k t u p q) (λ v h. h)
+pair-regular rec k (two-maps fs gs) p q = maps-regular rec k fs gs fs ∅ᶠ (q .1) (p .1) no-entries
+pair-regular rec k (two-nodes ls ks) p q = labels-regular ls ks
+pair-regular rec k (two-relationships m n) p q = tt
+pair-regular rec k (two-unions ts us) p q = union-regular rec k (tUnion us) q (union-members ts p)
+pair-regular rec k (union-left ts u x) p q = union-regular rec k u q (union-members ts p)
+pair-regular rec k (union-right t us x) p q = union-regular rec k t p (union-members us q)
+pair-regular rec k (no-rule a b e) p q = (p, q)
 
 arms-regular : (rec : Ty → Ty → Unified) → Keeps rec → Keeps (arms rec)
 unfolding arms
@@ -150,7 +124,7 @@ arms-regular rec k a b p q =
     (either RegularUnified (matches a (tUnknown ∷ []) || matches b (tUnknown ∷ [])) tt
     (either RegularUnified (equal a b) p
     (either RegularUnified (matches a (tNull ∷ [])) (unite-regular (also tt (also q empty)))
-    (either RegularUnified (matches b (tNull ∷ [])) (unite-regular (also tt (also p empty))) (pair-regular rec k a b p q))))))
+    (either RegularUnified (matches b (tNull ∷ [])) (unite-regular (also tt (also p empty))) (pair-regular rec k (met a b) p q))))))
 
 unify-in-regular : (n : ℕ) → Keeps (unifyIn n)
 unfolding unifyIn

@@ -4,7 +4,7 @@ use mathlib.Core.Option.{Option, none, some}
 use mathlib.Core.Bool.{Bool, true, false, _&&_, _||_}
 use Prim.Native.Nat.{ℕ, suc, zero, _+_}
 use Rattle.semantics.specs.Bytes.{Bytes, same}
-use Rattle.semantics.specs.Ty.{Base, tAny, tNull, tInt, tFloat, tNum, tUnknown, Ty, base, tList, tMap, tNode, tRelationship, tUnion, Fields, ∅ᶠ, field, members, among, matches, equal, nesting, unite, firsts, setField, getField, insertNames}
+use Rattle.semantics.specs.Ty.{Base, tAny, tNull, tInt, tFloat, tNum, tUnknown, Ty, base, tList, tMap, tNode, tRelationship, tUnion, Tys, Fields, ∅ᶠ, field, members, among, matches, equal, nesting, unite, firsts, setField, getField, insertNames}
 
 -- `Result<Type, TypeMismatch>`: the unified type, or the two types that do not unify, expected then actual
 pub data Answer : Type 0 where
@@ -101,44 +101,68 @@ unifyUnionWith rec vs other = widened vs other (variantsWith (λ v. rec v other)
 abbrev pub numbers : List Base
 numbers = tInt ∷ tFloat ∷ tNum ∷ []
 
--- the arms of `unify` from numeric widening on: two types that differ, neither Any, Unknown nor Null
-unfoldable pub pair : (Ty → Ty → Unified) → Ty → Ty → Unified
-pair rec (base b) (base c) = elim (among b numbers && among c numbers) [ true ↦ gives [] (base tNum) | false ↦ differs (base b) (base c) ]
-pair rec (base b) (tList u) = differs (base b) (tList u)
-pair rec (base b) (tMap gs) = differs (base b) (tMap gs)
-pair rec (base b) (tNode ls) = differs (base b) (tNode ls)
-pair rec (base b) (tRelationship n) = differs (base b) (tRelationship n)
-pair rec (base b) (tUnion us) = unifyUnionWith rec (members us) (base b)
-pair rec (tList t) (base c) = differs (tList t) (base c)
-pair rec (tList t) (tList u) = onAgreed (rec t u) (λ v. gives [] (tList v))
-pair rec (tList t) (tMap gs) = differs (tList t) (tMap gs)
-pair rec (tList t) (tNode ls) = differs (tList t) (tNode ls)
-pair rec (tList t) (tRelationship n) = differs (tList t) (tRelationship n)
-pair rec (tList t) (tUnion us) = unifyUnionWith rec (members us) (tList t)
-pair rec (tMap fs) (base c) = differs (tMap fs) (base c)
-pair rec (tMap fs) (tList u) = differs (tMap fs) (tList u)
-pair rec (tMap fs) (tMap gs) = unifyMaps rec fs fs gs ∅ᶠ
-pair rec (tMap fs) (tNode ls) = differs (tMap fs) (tNode ls)
-pair rec (tMap fs) (tRelationship n) = differs (tMap fs) (tRelationship n)
-pair rec (tMap fs) (tUnion us) = unifyUnionWith rec (members us) (tMap fs)
-pair rec (tNode ls) (base c) = differs (tNode ls) (base c)
-pair rec (tNode ls) (tList u) = differs (tNode ls) (tList u)
-pair rec (tNode ls) (tMap gs) = differs (tNode ls) (tMap gs)
-pair rec (tNode ls) (tNode ks) = gives [] (tNode (unifyLabelSets ls ks))
-pair rec (tNode ls) (tRelationship n) = differs (tNode ls) (tRelationship n)
-pair rec (tNode ls) (tUnion us) = unifyUnionWith rec (members us) (tNode ls)
-pair rec (tRelationship m) (base c) = differs (tRelationship m) (base c)
-pair rec (tRelationship m) (tList u) = differs (tRelationship m) (tList u)
-pair rec (tRelationship m) (tMap gs) = differs (tRelationship m) (tMap gs)
-pair rec (tRelationship m) (tNode ls) = differs (tRelationship m) (tNode ls)
-pair rec (tRelationship m) (tRelationship n) = gives [] (tRelationship (unifyNames m n))
-pair rec (tRelationship m) (tUnion us) = unifyUnionWith rec (members us) (tRelationship m)
-pair rec (tUnion ts) (base c) = unifyUnionWith rec (members ts) (base c)
-pair rec (tUnion ts) (tList u) = unifyUnionWith rec (members ts) (tList u)
-pair rec (tUnion ts) (tMap gs) = unifyUnionWith rec (members ts) (tMap gs)
-pair rec (tUnion ts) (tNode ls) = unifyUnionWith rec (members ts) (tNode ls)
-pair rec (tUnion ts) (tRelationship n) = unifyUnionWith rec (members ts) (tRelationship n)
-pair rec (tUnion ts) (tUnion us) = unifyUnionWith rec (members ts) (tUnion us)
+-- how two types meet that differ, neither Any, Unknown nor Null: two numbers, two of one form, one union or two, or no rule
+pub data Meeting : Type 0 where
+  widening : Meeting
+  lists : Ty → Ty → Meeting
+  maps : Fields → Fields → Meeting
+  nodes : Option (List Bytes) → Option (List Bytes) → Meeting
+  relationships : Option Bytes → Option Bytes → Meeting
+  unions : Tys → Tys → Meeting
+  leftUnion : Tys → Ty → Meeting
+  rightUnion : Ty → Tys → Meeting
+  apart : Ty → Ty → Meeting
+
+-- the pairs of forms, written out here and nowhere else
+unfoldable pub meeting : Ty → Ty → Meeting
+meeting (base b) (base c) = elim (among b numbers && among c numbers) [ true ↦ widening | false ↦ apart (base b) (base c) ]
+meeting (base b) (tList u) = apart (base b) (tList u)
+meeting (base b) (tMap gs) = apart (base b) (tMap gs)
+meeting (base b) (tNode ks) = apart (base b) (tNode ks)
+meeting (base b) (tRelationship n) = apart (base b) (tRelationship n)
+meeting (base b) (tUnion us) = rightUnion (base b) us
+meeting (tList t) (base c) = apart (tList t) (base c)
+meeting (tList t) (tList u) = lists t u
+meeting (tList t) (tMap gs) = apart (tList t) (tMap gs)
+meeting (tList t) (tNode ks) = apart (tList t) (tNode ks)
+meeting (tList t) (tRelationship n) = apart (tList t) (tRelationship n)
+meeting (tList t) (tUnion us) = rightUnion (tList t) us
+meeting (tMap fs) (base c) = apart (tMap fs) (base c)
+meeting (tMap fs) (tList u) = apart (tMap fs) (tList u)
+meeting (tMap fs) (tMap gs) = maps fs gs
+meeting (tMap fs) (tNode ks) = apart (tMap fs) (tNode ks)
+meeting (tMap fs) (tRelationship n) = apart (tMap fs) (tRelationship n)
+meeting (tMap fs) (tUnion us) = rightUnion (tMap fs) us
+meeting (tNode ls) (base c) = apart (tNode ls) (base c)
+meeting (tNode ls) (tList u) = apart (tNode ls) (tList u)
+meeting (tNode ls) (tMap gs) = apart (tNode ls) (tMap gs)
+meeting (tNode ls) (tNode ks) = nodes ls ks
+meeting (tNode ls) (tRelationship n) = apart (tNode ls) (tRelationship n)
+meeting (tNode ls) (tUnion us) = rightUnion (tNode ls) us
+meeting (tRelationship m) (base c) = apart (tRelationship m) (base c)
+meeting (tRelationship m) (tList u) = apart (tRelationship m) (tList u)
+meeting (tRelationship m) (tMap gs) = apart (tRelationship m) (tMap gs)
+meeting (tRelationship m) (tNode ks) = apart (tRelationship m) (tNode ks)
+meeting (tRelationship m) (tRelationship n) = relationships m n
+meeting (tRelationship m) (tUnion us) = rightUnion (tRelationship m) us
+meeting (tUnion ts) (base c) = leftUnion ts (base c)
+meeting (tUnion ts) (tList u) = leftUnion ts (tList u)
+meeting (tUnion ts) (tMap gs) = leftUnion ts (tMap gs)
+meeting (tUnion ts) (tNode ks) = leftUnion ts (tNode ks)
+meeting (tUnion ts) (tRelationship n) = leftUnion ts (tRelationship n)
+meeting (tUnion ts) (tUnion us) = unions ts us
+
+-- the arms of `unify` from numeric widening on
+unfoldable pub pair : (Ty → Ty → Unified) → Meeting → Unified
+pair rec widening = gives [] (base tNum)
+pair rec (lists t u) = onAgreed (rec t u) (λ v. gives [] (tList v))
+pair rec (maps fs gs) = unifyMaps rec fs fs gs ∅ᶠ
+pair rec (nodes ls ks) = gives [] (tNode (unifyLabelSets ls ks))
+pair rec (relationships m n) = gives [] (tRelationship (unifyNames m n))
+pair rec (unions ts us) = unifyUnionWith rec (members ts) (tUnion us)
+pair rec (leftUnion ts other) = unifyUnionWith rec (members ts) other
+pair rec (rightUnion other us) = unifyUnionWith rec (members us) other
+pair rec (apart expected actual) = differs expected actual
 
 -- the arms of `unify` in order: Any, Unknown, equal types, Null, the rest
 unfoldable pub arms : (Ty → Ty → Unified) → Ty → Ty → Unified
@@ -154,7 +178,7 @@ arms rec a b =
                 | true ↦ gives [] a
                 | false ↦ elim (matches a (tNull ∷ [])) [
                   | true ↦ unites [] (base tNull ∷ b ∷ [])
-                  | false ↦ elim (matches b (tNull ∷ [])) [ true ↦ unites [] (base tNull ∷ a ∷ []) | false ↦ pair rec a b ]
+                  | false ↦ elim (matches b (tNull ∷ [])) [ true ↦ unites [] (base tNull ∷ a ∷ []) | false ↦ pair rec (meeting a b) ]
                 ]
               ]
             ]

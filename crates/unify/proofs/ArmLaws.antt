@@ -2,15 +2,17 @@
 use mathlib.Core.Path.{_≡_, refl, sym, _∙_}
 use mathlib.Core.List.{List, [], _∷_}
 use mathlib.Core.Option.{Option, none}
-use mathlib.Core.Bool.{Bool, true, false, cond, _&&_, false≢true, _||_}
+use mathlib.Core.Bool.{Bool, true, false, cond, false≢true, _||_}
 use Prim.Native.Nat.{ℕ, suc, _+_, _*_, _-_, _/_, _≤_}
 use native.Mathlib.Omega.{arith}
 use lib.Dec.{eqb}
 use Rattle.semantics.specs.Bytes.{Bytes}
-use Rattle.semantics.specs.Ty.{tAny, tNull, tNum, tUnknown, Ty, base, tList, tMap, tNode, tRelationship, tUnion, among, matches, equal, nesting, union?}
-use Rattle.semantics.specs.Unify.{numbers}
+use Rattle.semantics.specs.Ty.{tAny, tNull, tNum, tUnknown, Ty, base, tList, tMap, tNode, tRelationship, tUnion, matches, equal, nesting, union?}
+use Rattle.semantics.specs.Unify.{Meeting, meeting}
+use Rattle.semantics.proofs.Meetings.{Met, two-numbers, two-lists, two-maps, two-nodes, two-relationships, two-unions, union-left, union-right, no-rule, met}
 use Rattle.unify_run.specs.Run.{Run, done, mismatch, large, nullable, runNodes, runPair, runArms}
 use Rattle.unify_run.proofs.Size.{nests}
+use Rattle.unify.specs.Codes.{listsArm, nodesArm}
 use Rattle.unify.specs.Work.{slots}
 use Rattle.unify.specs.Arms.{pairArm, armOf, hasParts}
 
@@ -42,44 +44,17 @@ flat-step : {a b : Ty} (c : Bool) {n m : ℕ} {r q : Run} → Flat a b n r → F
 flat-step true p q = p
 flat-step false p q = q
 
-flat-pair : (rec : Ty → Ty → Run) (a b : Ty) → Flat a b (pairArm a b) (runPair rec a b)
+flat-pair : (rec : Ty → Ty → Run) {a b : Ty} {m : Meeting} → Met a b m → Flat a b (pairArm m) (runPair rec m)
 unfolding runPair flatRun pairArm hasParts labelsOf
-flat-pair rec (base b) (base c) = flat-step (among b numbers && among c numbers) (record { is = λ h. refl }) (record { is = λ h. refl })
-flat-pair rec (base b) (tList u) = record { is = λ h. refl }
-flat-pair rec (base b) (tMap gs) = record { is = λ h. refl }
-flat-pair rec (base b) (tNode ks) = record { is = λ h. refl }
-flat-pair rec (base b) (tRelationship n) = record { is = λ h. refl }
-flat-pair rec (base b) (tUnion us) = record { is = λ h. absurd (false≢true (sym h)) }
-flat-pair rec (tList t) (base c) = record { is = λ h. refl }
-flat-pair rec (tList t) (tList u) = record { is = λ h. absurd (false≢true (sym h)) }
-flat-pair rec (tList t) (tMap gs) = record { is = λ h. refl }
-flat-pair rec (tList t) (tNode ks) = record { is = λ h. refl }
-flat-pair rec (tList t) (tRelationship n) = record { is = λ h. refl }
-flat-pair rec (tList t) (tUnion us) = record { is = λ h. absurd (false≢true (sym h)) }
-flat-pair rec (tMap fs) (base c) = record { is = λ h. refl }
-flat-pair rec (tMap fs) (tList u) = record { is = λ h. refl }
-flat-pair rec (tMap fs) (tMap gs) = record { is = λ h. absurd (false≢true (sym h)) }
-flat-pair rec (tMap fs) (tNode ks) = record { is = λ h. refl }
-flat-pair rec (tMap fs) (tRelationship n) = record { is = λ h. refl }
-flat-pair rec (tMap fs) (tUnion us) = record { is = λ h. absurd (false≢true (sym h)) }
-flat-pair rec (tNode ls) (base c) = record { is = λ h. refl }
-flat-pair rec (tNode ls) (tList u) = record { is = λ h. refl }
-flat-pair rec (tNode ls) (tMap gs) = record { is = λ h. refl }
-flat-pair rec (tNode ls) (tNode ks) = record { is = λ h. refl }
-flat-pair rec (tNode ls) (tRelationship n) = record { is = λ h. refl }
-flat-pair rec (tNode ls) (tUnion us) = record { is = λ h. absurd (false≢true (sym h)) }
-flat-pair rec (tRelationship m) (base c) = record { is = λ h. refl }
-flat-pair rec (tRelationship m) (tList u) = record { is = λ h. refl }
-flat-pair rec (tRelationship m) (tMap gs) = record { is = λ h. refl }
-flat-pair rec (tRelationship m) (tNode ks) = record { is = λ h. refl }
-flat-pair rec (tRelationship m) (tRelationship n) = record { is = λ h. refl }
-flat-pair rec (tRelationship m) (tUnion us) = record { is = λ h. absurd (false≢true (sym h)) }
-flat-pair rec (tUnion ts) (base c) = record { is = λ h. absurd (false≢true (sym h)) }
-flat-pair rec (tUnion ts) (tList u) = record { is = λ h. absurd (false≢true (sym h)) }
-flat-pair rec (tUnion ts) (tMap gs) = record { is = λ h. absurd (false≢true (sym h)) }
-flat-pair rec (tUnion ts) (tNode ks) = record { is = λ h. absurd (false≢true (sym h)) }
-flat-pair rec (tUnion ts) (tRelationship n) = record { is = λ h. absurd (false≢true (sym h)) }
-flat-pair rec (tUnion ts) (tUnion us) = record { is = λ h. absurd (false≢true (sym h)) }
+flat-pair rec (two-numbers b c x y) = record { is = λ h. refl }
+flat-pair rec (two-lists t u) = record { is = λ h. absurd (false≢true (sym h)) }
+flat-pair rec (two-maps fs gs) = record { is = λ h. absurd (false≢true (sym h)) }
+flat-pair rec (two-nodes ls ks) = record { is = λ h. refl }
+flat-pair rec (two-relationships m n) = record { is = λ h. refl }
+flat-pair rec (two-unions ts us) = record { is = λ h. absurd (false≢true (sym h)) }
+flat-pair rec (union-left ts u x) = record { is = λ h. absurd (false≢true (sym h)) }
+flat-pair rec (union-right t us x) = record { is = λ h. absurd (false≢true (sym h)) }
+flat-pair rec (no-rule a b e) = record { is = λ h. refl }
 
 flats : (rec : Ty → Ty → Run) (a b : Ty) → Flat a b (armOf a b) (runArms rec a b)
 unfolding runArms armOf flatRun
@@ -88,7 +63,7 @@ flats rec a b =
     (flat-step (matches b (tAny ∷ [])) (record { is = λ h. refl })
     (flat-step (matches a (tUnknown ∷ []) || matches b (tUnknown ∷ [])) (record { is = λ h. refl })
     (flat-step (equal a b) (record { is = λ h. refl })
-    (flat-step (matches a (tNull ∷ [])) (record { is = λ h. refl }) (flat-step (matches b (tNull ∷ [])) (record { is = λ h. refl }) (flat-pair rec a b))))))
+    (flat-step (matches a (tNull ∷ [])) (record { is = λ h. refl }) (flat-step (matches b (tNull ∷ [])) (record { is = λ h. refl }) (flat-pair rec (met a b)))))))
 
 pub flat-arms : (rec : Ty → Ty → Run) (a b : Ty) → hasParts (armOf a b) ≡ false → runArms rec a b ≡ flatRun (armOf a b) a b
 flat-arms rec a b = flats rec a b .is
@@ -104,7 +79,7 @@ five-step false p q = q
 low : {o : ℕ} {z : Run} {n : ℕ} {r : Run} → n ≤ 4 → FromFive o n z r
 low l = record { is = λ h. absurd (omega arith) }
 
-from-five : (rec : Ty → Ty → Run) (a b : Ty) → FromFive (pairArm a b) (armOf a b) (runPair rec a b) (runArms rec a b)
+from-five : (rec : Ty → Ty → Run) (a b : Ty) → FromFive (pairArm (meeting a b)) (armOf a b) (runPair rec (meeting a b)) (runArms rec a b)
 unfolding runArms armOf
 from-five rec a b =
     five-step (matches a (tAny ∷ [])) (low (omega arith))
@@ -113,7 +88,7 @@ from-five rec a b =
     (five-step (equal a b) (low (omega arith))
     (five-step (matches a (tNull ∷ [])) (low (omega arith)) (five-step (matches b (tNull ∷ [])) (low (omega arith)) (record { is = λ h. (refl, refl) }))))))
 
-pub pair-arms : (rec : Ty → Ty → Run) (a b : Ty) → 5 ≤ armOf a b → (runArms rec a b ≡ runPair rec a b) × (armOf a b ≡ pairArm a b)
+pub pair-arms : (rec : Ty → Ty → Run) (a b : Ty) → 5 ≤ armOf a b → (runArms rec a b ≡ runPair rec (meeting a b)) × (armOf a b ≡ pairArm (meeting a b))
 pair-arms rec a b = from-five rec a b .is
 
 -- ## The types of an arm
@@ -130,93 +105,35 @@ pub record Nodes (a b : Ty) : Type 0 where
   pub first-is : a ≡ tNode first
   pub second-is : b ≡ tNode second
 
-no-base : (c : Bool) (n : ℕ) → _≡_ {A = ℕ} (elim c [ true ↦ 5 | false ↦ 13 ]) n → (n ≡ 5 → ⊥) → (n ≡ 13 → ⊥) → ⊥
-no-base true n e p q = p (sym e)
-no-base false n e p q = q (sym e)
-
-pair-lists : (a b : Ty) → pairArm a b ≡ 6 → Lists a b
+pair-lists : {a b : Ty} {m : Meeting} → Met a b m → pairArm m ≡ listsArm → Lists a b
 unfolding pairArm
-pair-lists (base b) (base c) e = absurd (no-base (among b numbers && among c numbers) 6 e (λ q. omega arith) (λ q. omega arith))
-pair-lists (base b) (tList u) e = absurd (omega arith)
-pair-lists (base b) (tMap gs) e = absurd (omega arith)
-pair-lists (base b) (tNode ks) e = absurd (omega arith)
-pair-lists (base b) (tRelationship n) e = absurd (omega arith)
-pair-lists (base b) (tUnion us) e = absurd (omega arith)
-pair-lists (tList t) (base c) e = absurd (omega arith)
-pair-lists (tList t) (tList u) e = record { first = t; second = u; first-is = refl; second-is = refl }
-pair-lists (tList t) (tMap gs) e = absurd (omega arith)
-pair-lists (tList t) (tNode ks) e = absurd (omega arith)
-pair-lists (tList t) (tRelationship n) e = absurd (omega arith)
-pair-lists (tList t) (tUnion us) e = absurd (omega arith)
-pair-lists (tMap fs) (base c) e = absurd (omega arith)
-pair-lists (tMap fs) (tList u) e = absurd (omega arith)
-pair-lists (tMap fs) (tMap gs) e = absurd (omega arith)
-pair-lists (tMap fs) (tNode ks) e = absurd (omega arith)
-pair-lists (tMap fs) (tRelationship n) e = absurd (omega arith)
-pair-lists (tMap fs) (tUnion us) e = absurd (omega arith)
-pair-lists (tNode ls) (base c) e = absurd (omega arith)
-pair-lists (tNode ls) (tList u) e = absurd (omega arith)
-pair-lists (tNode ls) (tMap gs) e = absurd (omega arith)
-pair-lists (tNode ls) (tNode ks) e = absurd (omega arith)
-pair-lists (tNode ls) (tRelationship n) e = absurd (omega arith)
-pair-lists (tNode ls) (tUnion us) e = absurd (omega arith)
-pair-lists (tRelationship m) (base c) e = absurd (omega arith)
-pair-lists (tRelationship m) (tList u) e = absurd (omega arith)
-pair-lists (tRelationship m) (tMap gs) e = absurd (omega arith)
-pair-lists (tRelationship m) (tNode ks) e = absurd (omega arith)
-pair-lists (tRelationship m) (tRelationship n) e = absurd (omega arith)
-pair-lists (tRelationship m) (tUnion us) e = absurd (omega arith)
-pair-lists (tUnion ts) (base c) e = absurd (omega arith)
-pair-lists (tUnion ts) (tList u) e = absurd (omega arith)
-pair-lists (tUnion ts) (tMap gs) e = absurd (omega arith)
-pair-lists (tUnion ts) (tNode ks) e = absurd (omega arith)
-pair-lists (tUnion ts) (tRelationship n) e = absurd (omega arith)
-pair-lists (tUnion ts) (tUnion us) e = absurd (omega arith)
+pair-lists (two-numbers b c x y) e = absurd (omega arith)
+pair-lists (two-lists t u) e = record { first = t; second = u; first-is = refl; second-is = refl }
+pair-lists (two-maps fs gs) e = absurd (omega arith)
+pair-lists (two-nodes ls ks) e = absurd (omega arith)
+pair-lists (two-relationships m n) e = absurd (omega arith)
+pair-lists (two-unions ts us) e = absurd (omega arith)
+pair-lists (union-left ts u x) e = absurd (omega arith)
+pair-lists (union-right t us x) e = absurd (omega arith)
+pair-lists (no-rule a b x) e = absurd (omega arith)
 
-pair-nodes : (a b : Ty) → pairArm a b ≡ 8 → Nodes a b
+pair-nodes : {a b : Ty} {m : Meeting} → Met a b m → pairArm m ≡ nodesArm → Nodes a b
 unfolding pairArm
-pair-nodes (base b) (base c) e = absurd (no-base (among b numbers && among c numbers) 8 e (λ q. omega arith) (λ q. omega arith))
-pair-nodes (base b) (tList u) e = absurd (omega arith)
-pair-nodes (base b) (tMap gs) e = absurd (omega arith)
-pair-nodes (base b) (tNode ks) e = absurd (omega arith)
-pair-nodes (base b) (tRelationship n) e = absurd (omega arith)
-pair-nodes (base b) (tUnion us) e = absurd (omega arith)
-pair-nodes (tList t) (base c) e = absurd (omega arith)
-pair-nodes (tList t) (tList u) e = absurd (omega arith)
-pair-nodes (tList t) (tMap gs) e = absurd (omega arith)
-pair-nodes (tList t) (tNode ks) e = absurd (omega arith)
-pair-nodes (tList t) (tRelationship n) e = absurd (omega arith)
-pair-nodes (tList t) (tUnion us) e = absurd (omega arith)
-pair-nodes (tMap fs) (base c) e = absurd (omega arith)
-pair-nodes (tMap fs) (tList u) e = absurd (omega arith)
-pair-nodes (tMap fs) (tMap gs) e = absurd (omega arith)
-pair-nodes (tMap fs) (tNode ks) e = absurd (omega arith)
-pair-nodes (tMap fs) (tRelationship n) e = absurd (omega arith)
-pair-nodes (tMap fs) (tUnion us) e = absurd (omega arith)
-pair-nodes (tNode ls) (base c) e = absurd (omega arith)
-pair-nodes (tNode ls) (tList u) e = absurd (omega arith)
-pair-nodes (tNode ls) (tMap gs) e = absurd (omega arith)
-pair-nodes (tNode ls) (tNode ks) e = record { first = ls; second = ks; first-is = refl; second-is = refl }
-pair-nodes (tNode ls) (tRelationship n) e = absurd (omega arith)
-pair-nodes (tNode ls) (tUnion us) e = absurd (omega arith)
-pair-nodes (tRelationship m) (base c) e = absurd (omega arith)
-pair-nodes (tRelationship m) (tList u) e = absurd (omega arith)
-pair-nodes (tRelationship m) (tMap gs) e = absurd (omega arith)
-pair-nodes (tRelationship m) (tNode ks) e = absurd (omega arith)
-pair-nodes (tRelationship m) (tRelationship n) e = absurd (omega arith)
-pair-nodes (tRelationship m) (tUnion us) e = absurd (omega arith)
-pair-nodes (tUnion ts) (base c) e = absurd (omega arith)
-pair-nodes (tUnion ts) (tList u) e = absurd (omega arith)
-pair-nodes (tUnion ts) (tMap gs) e = absurd (omega arith)
-pair-nodes (tUnion ts) (tNode ks) e = absurd (omega arith)
-pair-nodes (tUnion ts) (tRelationship n) e = absurd (omega arith)
-pair-nodes (tUnion ts) (tUnion us) e = absurd (omega arith)
+pair-nodes (two-numbers b c x y) e = absurd (omega arith)
+pair-nodes (two-lists t u) e = absurd (omega arith)
+pair-nodes (two-maps fs gs) e = absurd (omega arith)
+pair-nodes (two-nodes ls ks) e = record { first = ls; second = ks; first-is = refl; second-is = refl }
+pair-nodes (two-relationships m n) e = absurd (omega arith)
+pair-nodes (two-unions ts us) e = absurd (omega arith)
+pair-nodes (union-left ts u x) e = absurd (omega arith)
+pair-nodes (union-right t us x) e = absurd (omega arith)
+pair-nodes (no-rule a b x) e = absurd (omega arith)
 
-pub arm-lists : (a b : Ty) → armOf a b ≡ 6 → Lists a b
-arm-lists a b e = pair-lists a b (sym (pair-arms (λ t u. large) a b (omega arith) .1) ∙ e)
+pub arm-lists : (a b : Ty) → armOf a b ≡ listsArm → Lists a b
+arm-lists a b e = pair-lists (met a b) (sym (pair-arms (λ t u. large) a b (omega arith) .1) ∙ e)
 
-pub arm-nodes : (a b : Ty) → armOf a b ≡ 8 → Nodes a b
-arm-nodes a b e = pair-nodes a b (sym (pair-arms (λ t u. large) a b (omega arith) .1) ∙ e)
+pub arm-nodes : (a b : Ty) → armOf a b ≡ nodesArm → Nodes a b
+arm-nodes a b e = pair-nodes (met a b) (sym (pair-arms (λ t u. large) a b (omega arith) .1) ∙ e)
 
 -- ## Room
 

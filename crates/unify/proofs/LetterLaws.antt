@@ -10,7 +10,7 @@ use lib.ListN.{length, getD}
 use lib.Seq.{slice}
 use Rattle.semantics.specs.Bytes.{Bytes, same}
 use Rattle.semantics.specs.Ty.{Base, tAny, tNull, tBool, tInt, tFloat, tNum, tString, tDate, tDatetime, tPath, tUnknown, Ty, base, tList, tMap, tNode, tRelationship, tUnion, letter, among, matches, equal}
-use Rattle.semantics.specs.Unify.{numbers}
+use Rattle.semantics.specs.Unify.{numbers, widening, apart, meeting}
 use Rattle.semantics.proofs.Order.{letter-inj, equal-refl}
 use Rattle.ty.specs.Parts.{TypeAt}
 use Rattle.ty.specs.Read.{kindOf}
@@ -59,22 +59,22 @@ module _ (b : Base) (k : ℕ) (h : special k ≡ true) (n : numeric k ≡ false)
   second-base = rw (letter-not k b h, n, not-letter 79 b refl)
 
 two-bases : (b c : Base) → equal (base b) (base c) ≡ false
-    → _≡_ {A = ℕ} (elim (among b numbers && among c numbers) [ true ↦ 5 | false ↦ 13 ]) (cond (eqb (letter b) (letter c)) (armOfKind (letter c)) (armOfKinds (letter b) (letter c)))
-unfolding armOfKinds special
+    → pairArm (meeting (base b) (base c)) ≡ cond (eqb (letter b) (letter c)) (armOfKind (letter c)) (armOfKinds (letter b) (letter c))
+unfolding meeting pairArm armOfKinds special
 two-bases b c e =
     let d : eqb (letter b) (letter c) ≡ false = ne-eqb (letter b) (letter c) (λ q. unlike (letter-inj b c q)) in
-    rw (base-number b, base-number c, d, not-letter 79 b refl, not-letter 79 c refl) (go (numeric (letter b) && numeric (letter c)))
+    rw (base-number b, base-number c, d, not-letter 79 b refl, not-letter 79 c refl, meeting) (go (numeric (letter b) && numeric (letter c)))
   where
     unlike : b ≡ c → ⊥
     unlike q = false≢true (sym e ∙ ap (λ (x : Base). equal (base b) (base x)) (sym q) ∙ equal-refl (base b))
 
-    go : (x : Bool) → _≡_ {A = ℕ} (elim x [ true ↦ 5 | false ↦ 13 ]) (cond x 5 13)
+    go : (x : Bool) → pairArm (elim x [ true ↦ widening | false ↦ apart (base b) (base c) ]) ≡ cond x 5 13
     go true = refl
     go false = refl
 
 -- two types that are not equal, none Any, Unknown or Null
-pair-letters : (t u : Ty) → equal t u ≡ false → pairArm t u ≡ cond (eqb (kindOf t) (kindOf u)) (armOfKind (kindOf u)) (armOfKinds (kindOf t) (kindOf u))
-unfolding pairArm kindOf armOfKind armOfKinds numeric special
+pair-letters : (t u : Ty) → equal t u ≡ false → pairArm (meeting t u) ≡ cond (eqb (kindOf t) (kindOf u)) (armOfKind (kindOf u)) (armOfKinds (kindOf t) (kindOf u))
+unfolding pairArm meeting kindOf armOfKind armOfKinds numeric special
 pair-letters (base b) (base c) e = two-bases b c e
 pair-letters (base b) (tList u) e = sym (first-base b 74 refl refl)
 pair-letters (base b) (tMap gs) e = sym (first-base b 75 refl refl)
@@ -113,11 +113,11 @@ pair-letters (tUnion ts) (tRelationship n) e = refl
 pair-letters (tUnion ts) (tUnion us) e = refl
 
 unequal-letters : (t u : Ty) → equal t u ≡ false
-    → elim (matches t (tNull ∷ [])) [ true ↦ 3 | false ↦ elim (matches u (tNull ∷ [])) [ true ↦ 4 | false ↦ pairArm t u ] ] ≡ armOfUnequal (kindOf t) (kindOf u)
+    → elim (matches t (tNull ∷ [])) [ true ↦ 3 | false ↦ elim (matches u (tNull ∷ [])) [ true ↦ 4 | false ↦ pairArm (meeting t u) ] ] ≡ armOfUnequal (kindOf t) (kindOf u)
 unfolding armOfUnequal letter
 unequal-letters t u e = go (matches t (tNull ∷ [])) (matches u (tNull ∷ [])) (sym (matches-letter t tNull)) (sym (matches-letter u tNull))
   where
-    go : (x y : Bool) → eqb (kindOf t) 66 ≡ x → eqb (kindOf u) 66 ≡ y → elim x [ true ↦ 3 | false ↦ elim y [ true ↦ 4 | false ↦ pairArm t u ] ] ≡ armOfUnequal (kindOf t) (kindOf u)
+    go : (x y : Bool) → eqb (kindOf t) 66 ≡ x → eqb (kindOf u) 66 ≡ y → elim x [ true ↦ 3 | false ↦ elim y [ true ↦ 4 | false ↦ pairArm (meeting t u) ] ] ≡ armOfUnequal (kindOf t) (kindOf u)
     go true y p q = rw (p, armOfUnequal)
     go false true p q = rw (p, q, armOfUnequal)
     go false false p q = rw (p, q, armOfUnequal) (pair-letters t u e)

@@ -8,6 +8,7 @@ use lib.ListN.{length, take, drop}
 use lib.Seq.{slice, sets}
 use Rattle.semantics.specs.Bytes.{Bytes}
 use Rattle.semantics.specs.Ty.{Ty, tList, line, lineTo, regular, tooLarge}
+use Rattle.semantics.specs.Unify.{meeting}
 use Rattle.semantics.proofs.Regular.{regular-sound}
 use Rattle.text.proofs.Laws.{take-slice, drop-slice, slice-join, copied}
 use Rattle.ty.specs.Parts.{TypeAt}
@@ -79,7 +80,7 @@ list-head {s} {a} {e} {x} f = sym (take-slice 2 a e s (two-at s a e (tList x) f)
 -- what the frame comes to
 list-judged : (x y : Ty) → 6 ≡ armOf (tList x) (tList y) → regular (tList x) ≡ true → regular (tList y) ≡ true → tooLarge (tList x) ≡ false → tooLarge (tList y) ≡ false
     → left judged (listPair x y) ≡ judged (tList x) (tList y)
-unfolding left runPair
+unfolding left runPair meeting
 list-judged x y e p q s t =
     sym (verdict-arms (tList x) (tList y) (regular-sound (tList x) p) (regular-sound (tList y) q) s t ∙ pair-arms judged (tList x) (tList y) (omega arith) .0)
 

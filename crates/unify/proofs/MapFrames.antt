@@ -2,15 +2,16 @@
 use Prim.Native.Nat.{ℕ, _+_, _-_, _*_, _≤_}
 use native.Mathlib.Omega.{arith}
 use mathlib.Core.Path.{_≡_, refl, sym, _∙_, ap, subst}
-use mathlib.Core.Bool.{Bool, true, false, cond, _&&_, _||_}
+use mathlib.Core.Bool.{Bool, true, false, cond, _||_}
 use mathlib.Core.List.{[], _∷_}
 use mathlib.Core.Option.{Option, none, some}
 use mathlib.Core.Logic.{inl, inr}
 use lib.ListN.{length, take}
 use lib.Seq.{slice, sets, length-sets, length-slice}
 use Rattle.semantics.specs.Bytes.{Bytes}
-use Rattle.semantics.specs.Ty.{tAny, tNull, tUnknown, Ty, base, tList, tMap, tNode, tRelationship, tUnion, Fields, ∅ᶠ, among, matches, equal, lineTo, fieldsTo, line, nesting, nestingF, union?}
-use Rattle.semantics.specs.Unify.{numbers}
+use Rattle.semantics.specs.Ty.{Ty, tMap, Fields, ∅ᶠ, lineTo, fieldsTo, line, nesting, nestingF, union?}
+use Rattle.semantics.specs.Unify.{Meeting}
+use Rattle.semantics.proofs.Meetings.{Met, two-numbers, two-lists, two-maps, two-nodes, two-relationships, two-unions, union-left, union-right, no-rule, met}
 use Rattle.semantics.proofs.Order.{line-eq}
 use Rattle.semantics.proofs.Regular.{regular-sound}
 use Rattle.text.proofs.Laws.{copied, take-below}
@@ -21,6 +22,7 @@ use Rattle.ty.proofs.Members.{line-long}
 use Rattle.ty.proofs.MergeLaws.{split-part}
 use Rattle.unify_run.specs.Run.{Run, done, mismatch, large, onDone, long, kept, keep, runMaps, runPair, runArms}
 use Rattle.unify_run.proofs.Theorem.{verdict-arms}
+use Rattle.unify.specs.Codes.{mapsArm}
 use Rattle.unify.specs.Work.{Operand, Below, slots, Answered}
 use Rattle.unify.specs.Arms.{armOf, pairArm}
 use Rattle.unify.specs.Made.{goes, apartBy}
@@ -32,6 +34,7 @@ use Rattle.unify.specs.declared.Unified.the-variants.{Done, Mismatch, To
 use Rattle.unify.specs.declared.Frame.{Frame}
 use Rattle.unify.proofs.Entries.{below-refl, below-trans, entries-same}
 use Rattle.unify.proofs.KeptMap.{kept-value}
+use Rattle.unify.proofs.ArmLaws.{pair-arms}
 
 -- ## The arm of two maps
 
@@ -42,67 +45,20 @@ pub record TwoMaps (a b : Ty) (R : Run) : Type 0 where
   pub right-is : b ≡ tMap second
   pub runs : R ≡ runMaps judged first second (kept ∅ᶠ)
 
-numbers? : (b : Bool) → _≡_ {A = ℕ} (elim b [ true ↦ 5 | false ↦ 13 ]) 7 → ⊥
-numbers? true e = omega arith
-numbers? false e = omega arith
-
-two-maps : (a b : Ty) → pairArm a b ≡ 7 → TwoMaps a b (runPair judged a b)
+two-maps-of : {a b : Ty} {m : Meeting} → Met a b m → pairArm m ≡ mapsArm → TwoMaps a b (runPair judged m)
 unfolding pairArm runPair
-two-maps (base b) (base c) e = absurd (numbers? (among b numbers && among c numbers) e)
-two-maps (base b) (tList u) e = absurd (omega arith)
-two-maps (base b) (tMap gs) e = absurd (omega arith)
-two-maps (base b) (tNode ks) e = absurd (omega arith)
-two-maps (base b) (tRelationship n) e = absurd (omega arith)
-two-maps (base b) (tUnion us) e = absurd (omega arith)
-two-maps (tList t) (base c) e = absurd (omega arith)
-two-maps (tList t) (tList u) e = absurd (omega arith)
-two-maps (tList t) (tMap gs) e = absurd (omega arith)
-two-maps (tList t) (tNode ks) e = absurd (omega arith)
-two-maps (tList t) (tRelationship n) e = absurd (omega arith)
-two-maps (tList t) (tUnion us) e = absurd (omega arith)
-two-maps (tMap fs) (base c) e = absurd (omega arith)
-two-maps (tMap fs) (tList u) e = absurd (omega arith)
-two-maps (tMap fs) (tMap gs) e = record { first = fs; second = gs; left-is = refl; right-is = refl; runs = refl }
-two-maps (tMap fs) (tNode ks) e = absurd (omega arith)
-two-maps (tMap fs) (tRelationship n) e = absurd (omega arith)
-two-maps (tMap fs) (tUnion us) e = absurd (omega arith)
-two-maps (tNode ls) (base c) e = absurd (omega arith)
-two-maps (tNode ls) (tList u) e = absurd (omega arith)
-two-maps (tNode ls) (tMap gs) e = absurd (omega arith)
-two-maps (tNode ls) (tNode ks) e = absurd (omega arith)
-two-maps (tNode ls) (tRelationship n) e = absurd (omega arith)
-two-maps (tNode ls) (tUnion us) e = absurd (omega arith)
-two-maps (tRelationship m) (base c) e = absurd (omega arith)
-two-maps (tRelationship m) (tList u) e = absurd (omega arith)
-two-maps (tRelationship m) (tMap gs) e = absurd (omega arith)
-two-maps (tRelationship m) (tNode ks) e = absurd (omega arith)
-two-maps (tRelationship m) (tRelationship n) e = absurd (omega arith)
-two-maps (tRelationship m) (tUnion us) e = absurd (omega arith)
-two-maps (tUnion ts) (base c) e = absurd (omega arith)
-two-maps (tUnion ts) (tList u) e = absurd (omega arith)
-two-maps (tUnion ts) (tMap gs) e = absurd (omega arith)
-two-maps (tUnion ts) (tNode ks) e = absurd (omega arith)
-two-maps (tUnion ts) (tRelationship n) e = absurd (omega arith)
-two-maps (tUnion ts) (tUnion us) e = absurd (omega arith)
+two-maps-of (two-numbers b c x y) e = absurd (omega arith)
+two-maps-of (two-lists t u) e = absurd (omega arith)
+two-maps-of (two-maps fs gs) e = record { first = fs; second = gs; left-is = refl; right-is = refl; runs = refl }
+two-maps-of (two-nodes ls ks) e = absurd (omega arith)
+two-maps-of (two-relationships m n) e = absurd (omega arith)
+two-maps-of (two-unions ts us) e = absurd (omega arith)
+two-maps-of (union-left ts u x) e = absurd (omega arith)
+two-maps-of (union-right t us x) e = absurd (omega arith)
+two-maps-of (no-rule a b x) e = absurd (omega arith)
 
--- the arms before it are numbered otherwise
-arm-pair : (a b : Ty) → armOf a b ≡ 7 → (pairArm a b ≡ 7) × (runArms judged a b ≡ runPair judged a b)
-unfolding armOf runArms
-arm-pair a b e = go (matches a (tAny ∷ [])) (matches b (tAny ∷ [])) (matches a (tUnknown ∷ []) || matches b (tUnknown ∷ [])) (equal a b) (matches a (tNull ∷ [])) (matches b (tNull ∷ [])) _ _ _ _ _ _ _ _ e
-  where
-    go : (c d f g h i : Bool) (n : ℕ) (r : Run) (r₁ r₂ r₃ r₄ r₅ r₆ : Run)
-        → _≡_ {A = ℕ} (elim c [ true ↦ 1 | false ↦ elim d [ true ↦ 0 | false ↦ elim f [ true ↦ 2 | false ↦ elim g [ true ↦ 0 | false ↦ elim h [ true ↦ 3 | false ↦ elim i [ true ↦ 4 | false ↦ n ] ] ] ] ] ]) 7
-        → (n ≡ 7) × _≡_ {A = Run} (elim c [ true ↦ r₁ | false ↦ elim d [ true ↦ r₂ | false ↦ elim f [ true ↦ r₃ | false ↦ elim g [ true ↦ r₄ | false ↦ elim h [ true ↦ r₅ | false ↦ elim i [ true ↦ r₆ | false ↦ r ] ] ] ] ] ]) r
-    go true d f g h i n r r₁ r₂ r₃ r₄ r₅ r₆ e = absurd (omega arith)
-    go false true f g h i n r r₁ r₂ r₃ r₄ r₅ r₆ e = absurd (omega arith)
-    go false false true g h i n r r₁ r₂ r₃ r₄ r₅ r₆ e = absurd (omega arith)
-    go false false false true h i n r r₁ r₂ r₃ r₄ r₅ r₆ e = absurd (omega arith)
-    go false false false false true i n r r₁ r₂ r₃ r₄ r₅ r₆ e = absurd (omega arith)
-    go false false false false false true n r r₁ r₂ r₃ r₄ r₅ r₆ e = absurd (omega arith)
-    go false false false false false false n r r₁ r₂ r₃ r₄ r₅ r₆ e = (e, refl)
-
-pub arm-maps : (a b : Ty) → armOf a b ≡ 7 → TwoMaps a b (runArms judged a b)
-arm-maps a b e = let (p, q) = arm-pair a b e in rw q (two-maps a b p)
+pub arm-maps : (a b : Ty) → armOf a b ≡ mapsArm → TwoMaps a b (runArms judged a b)
+arm-maps a b e = let (q, p) = pair-arms judged a b (omega arith) in rw q (two-maps-of (met a b) (sym p ∙ e))
 
 -- ## Room
 

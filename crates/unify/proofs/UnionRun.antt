@@ -2,30 +2,33 @@
 use mathlib.Core.Path.{_≡_, refl, sym, _∙_, ap, subst}
 use mathlib.Core.List.{List, [], _∷_, map, List·Memᴰ, List·Memᴰ·head, List·Memᴰ·tail}
 use mathlib.Core.Option.{Option, none, some}
-use mathlib.Core.Bool.{Bool, true, false, _&&_, _||_, false≢true}
+use mathlib.Core.Bool.{Bool, true, false, false≢true}
 use Prim.Native.Nat.{ℕ, _+_, _-_, _*_, _/_, _≤_, _<_}
 use native.Mathlib.Omega.{arith}
 use lib.Dec.{ltb}
 use borrow.Author.Tests.{eq-eqb, ne-eqb, ltb-true, ltb-false}
 use Rattle.semantics.specs.Bytes.{Bytes}
-use Rattle.semantics.specs.Ty.{tAny, tNull, tUnknown, Ty, base, tList, tMap, tNode, tRelationship, tUnion, Tys, members, letter, among, matches, line, equal, nesting, insert, inserts, opened, joined, ascending, union?, regular}
-use Rattle.semantics.specs.Unify.{numbers}
+use Rattle.semantics.specs.Ty.{tNull, Ty, base, tList, tMap, tNode, tRelationship, tUnion, Tys, members, letter, among, matches, line, nesting, insert, inserts, opened, joined, ascending, union?, regular}
+use Rattle.semantics.specs.Unify.{Meeting, meeting}
 use Rattle.semantics.proofs.All.{All, empty, also, all-weaken}
+use Rattle.semantics.proofs.Meetings.{Met, two-numbers, two-lists, two-maps, two-nodes, two-relationships, two-unions, union-left, union-right, no-rule, met}
 use Rattle.semantics.proofs.Order.{TriTy, lt, eq, gt, triTy, insert-lt, insert-eq, insert-gt}
 use Rattle.semantics.proofs.Regular.{Member, ascends-true, ascends-sound, regular-true, regular-sound, inserts-sorted}
 use Rattle.ty.specs.Read.{kindOf}
 use Rattle.ty.specs.Union.{TypesAt, overlong, grown}
 use Rattle.ty.specs.declared.Grown.{Grown}
 use Rattle.ty.proofs.UnionLaws.{size-long}
-use Rattle.unify_run.specs.Run.{done, large, drops, given, long, fitting, add, widen, runVariants, metBy, runMembers, nullable, runPair, runArms}
+use Rattle.unify_run.specs.Run.{large, drops, given, long, fitting, add, widen, runVariants, metBy, runMembers, runPair, runArms}
 use Rattle.unify_run.proofs.Size.{small-sound, small-true, members-inside, nests}
 use Rattle.unify_run.proofs.UnionsMeet.{union-members}
 use Rattle.unify_run.proofs.Theorem.{Part, part-members}
 use Rattle.unify_run.proofs.Answers.{Fine}
+use Rattle.unify.specs.Codes.{unionsArm, unionLeftArm, unionRightArm}
 use Rattle.unify.specs.Work.{slots}
 use Rattle.unify.specs.Arms.{pairArm, armOf}
 use Rattle.unify.specs.Frames.{judged, unionPair, unionSkip, unionDone, left, Plain}
 use Rattle.unify.specs.Variants.{Grows}
+use Rattle.unify.proofs.ArmLaws.{pair-arms}
 
 -- ## Members
 
@@ -155,69 +158,26 @@ comes-pair v o vs os ms h = ap (λ (b : Bool). given (runVariants judged (v ∷ 
 
 -- ## Which arms make a union
 
-pub data UnionArm (t u : Ty) (arm : ℕ) : Type 0 where
-  both : (ts us : Tys) → t ≡ tUnion ts → u ≡ tUnion us → arm ≡ 10 → runPair judged t u ≡ runMembers judged (members us) (members ts) [] → UnionArm t u arm
-  first : (ts : Tys) → t ≡ tUnion ts → union? u ≡ false → arm ≡ 11 → runPair judged t u ≡ runMembers judged (members ts) (u ∷ []) [] → UnionArm t u arm
-  second : (us : Tys) → union? t ≡ false → u ≡ tUnion us → arm ≡ 12 → runPair judged t u ≡ runMembers judged (members us) (t ∷ []) [] → UnionArm t u arm
+pub data UnionArm (t u : Ty) (m : Meeting) (arm : ℕ) : Type 0 where
+  both : (ts us : Tys) → t ≡ tUnion ts → u ≡ tUnion us → arm ≡ unionsArm → runPair judged m ≡ runMembers judged (members us) (members ts) [] → UnionArm t u m arm
+  first : (ts : Tys) → t ≡ tUnion ts → union? u ≡ false → arm ≡ unionLeftArm → runPair judged m ≡ runMembers judged (members ts) (u ∷ []) [] → UnionArm t u m arm
+  second : (us : Tys) → union? t ≡ false → u ≡ tUnion us → arm ≡ unionRightArm → runPair judged m ≡ runMembers judged (members us) (t ∷ []) [] → UnionArm t u m arm
 
-pair-arm : (t u : Ty) (arm : ℕ) → arm ≡ pairArm t u → 10 ≤ arm → arm ≤ 12 → UnionArm t u arm
-unfolding pairArm runPair union?
-pair-arm (base b) (base c) arm e l h = absurd (go (among b numbers && among c numbers) e)
-  where
-    go : (x : Bool) → arm ≡ elim x [ true ↦ 5 | false ↦ 13 ] → ⊥
-    go true q = omega arith
-    go false q = omega arith
-pair-arm (base b) (tList u) arm e l h = absurd (omega arith)
-pair-arm (base b) (tMap gs) arm e l h = absurd (omega arith)
-pair-arm (base b) (tNode ls) arm e l h = absurd (omega arith)
-pair-arm (base b) (tRelationship n) arm e l h = absurd (omega arith)
-pair-arm (base b) (tUnion us) arm e l h = second us refl refl e refl
-pair-arm (tList t) (base c) arm e l h = absurd (omega arith)
-pair-arm (tList t) (tList u) arm e l h = absurd (omega arith)
-pair-arm (tList t) (tMap gs) arm e l h = absurd (omega arith)
-pair-arm (tList t) (tNode ls) arm e l h = absurd (omega arith)
-pair-arm (tList t) (tRelationship n) arm e l h = absurd (omega arith)
-pair-arm (tList t) (tUnion us) arm e l h = second us refl refl e refl
-pair-arm (tMap fs) (base c) arm e l h = absurd (omega arith)
-pair-arm (tMap fs) (tList u) arm e l h = absurd (omega arith)
-pair-arm (tMap fs) (tMap gs) arm e l h = absurd (omega arith)
-pair-arm (tMap fs) (tNode ls) arm e l h = absurd (omega arith)
-pair-arm (tMap fs) (tRelationship n) arm e l h = absurd (omega arith)
-pair-arm (tMap fs) (tUnion us) arm e l h = second us refl refl e refl
-pair-arm (tNode ls) (base c) arm e l h = absurd (omega arith)
-pair-arm (tNode ls) (tList u) arm e l h = absurd (omega arith)
-pair-arm (tNode ls) (tMap gs) arm e l h = absurd (omega arith)
-pair-arm (tNode ls) (tNode ks) arm e l h = absurd (omega arith)
-pair-arm (tNode ls) (tRelationship n) arm e l h = absurd (omega arith)
-pair-arm (tNode ls) (tUnion us) arm e l h = second us refl refl e refl
-pair-arm (tRelationship m) (base c) arm e l h = absurd (omega arith)
-pair-arm (tRelationship m) (tList u) arm e l h = absurd (omega arith)
-pair-arm (tRelationship m) (tMap gs) arm e l h = absurd (omega arith)
-pair-arm (tRelationship m) (tNode ls) arm e l h = absurd (omega arith)
-pair-arm (tRelationship m) (tRelationship n) arm e l h = absurd (omega arith)
-pair-arm (tRelationship m) (tUnion us) arm e l h = second us refl refl e refl
-pair-arm (tUnion ts) (base c) arm e l h = first ts refl refl e refl
-pair-arm (tUnion ts) (tList u) arm e l h = first ts refl refl e refl
-pair-arm (tUnion ts) (tMap gs) arm e l h = first ts refl refl e refl
-pair-arm (tUnion ts) (tNode ls) arm e l h = first ts refl refl e refl
-pair-arm (tUnion ts) (tRelationship n) arm e l h = first ts refl refl e refl
-pair-arm (tUnion ts) (tUnion us) arm e l h = both ts us refl refl e refl
+pair-arm : {t u : Ty} {m : Meeting} → Met t u m → (arm : ℕ) → arm ≡ pairArm m → unionsArm ≤ arm → arm ≤ unionRightArm → UnionArm t u m arm
+unfolding pairArm runPair
+pair-arm (two-numbers b c x y) arm e l h = absurd (omega arith)
+pair-arm (two-lists t u) arm e l h = absurd (omega arith)
+pair-arm (two-maps fs gs) arm e l h = absurd (omega arith)
+pair-arm (two-nodes ls ks) arm e l h = absurd (omega arith)
+pair-arm (two-relationships m n) arm e l h = absurd (omega arith)
+pair-arm (two-unions ts us) arm e l h = both ts us refl refl e refl
+pair-arm (union-left ts u x) arm e l h = first ts refl x e refl
+pair-arm (union-right t us x) arm e l h = second us x refl e refl
+pair-arm (no-rule a b x) arm e l h = absurd (omega arith)
 
 -- the arms before the pairs make none
-pub union-arm : (t u : Ty) (arm : ℕ) → arm ≡ armOf t u → 10 ≤ arm → arm ≤ 12 → (runArms judged t u ≡ runPair judged t u) × UnionArm t u arm
-unfolding armOf runArms
-union-arm t u arm e l h = go (matches t (tAny ∷ [])) (matches u (tAny ∷ [])) (matches t (tUnknown ∷ []) || matches u (tUnknown ∷ [])) (equal t u) (matches t (tNull ∷ [])) (matches u (tNull ∷ [])) e
-  where
-    go : (a b c d x y : Bool)
-        → arm ≡ elim a [ true ↦ 1 | false ↦ elim b [ true ↦ 0 | false ↦ elim c [ true ↦ 2 | false ↦ elim d [ true ↦ 0 | false ↦ elim x [ true ↦ 3 | false ↦ elim y [ true ↦ 4 | false ↦ pairArm t u ] ] ] ] ] ]
-        → (elim a [ true ↦ done u | false ↦ elim b [ true ↦ done t | false ↦ elim c [ true ↦ done (base tUnknown) | false ↦ elim d [ true ↦ done t | false ↦ elim x [ true ↦ nullable u | false ↦ elim y [ true ↦ nullable t | false ↦ runPair judged t u ] ] ] ] ] ] ≡ runPair judged t u) × UnionArm t u arm
-    go true b c d x y q = absurd (omega arith)
-    go false true c d x y q = absurd (omega arith)
-    go false false true d x y q = absurd (omega arith)
-    go false false false true x y q = absurd (omega arith)
-    go false false false false true y q = absurd (omega arith)
-    go false false false false false true q = absurd (omega arith)
-    go false false false false false false q = (refl, pair-arm t u arm q l h)
+pub union-arm : (t u : Ty) (arm : ℕ) → arm ≡ armOf t u → unionsArm ≤ arm → arm ≤ unionRightArm → (runArms judged t u ≡ runPair judged (meeting t u)) × UnionArm t u (meeting t u) arm
+union-arm t u arm e l h = let (q, p) = pair-arms judged t u (omega arith) in (q, pair-arm (met t u) arm (e ∙ p) l h)
 
 -- ## Room for the pairs
 

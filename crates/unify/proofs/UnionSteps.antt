@@ -9,6 +9,7 @@ use lib.ListN.{length, take, drop, length-append}
 use lib.Seq.{slice, slice-empty}
 use Rattle.semantics.specs.Bytes.{Bytes}
 use Rattle.semantics.specs.Ty.{Ty, tUnion, Tys, members, line, inserts, opened, union?, regular}
+use Rattle.semantics.specs.Unify.{meeting}
 use Rattle.semantics.proofs.All.{All, empty, also}
 use Rattle.semantics.proofs.Order.{line-eq}
 use Rattle.semantics.proofs.Regular.{regular-sound}
@@ -247,7 +248,7 @@ record Begins (s : Bytes) (mark : ℕ) (f : Frame) (t u : Ty) : Type 0 where
   outers : List Ty
   all : List Ty
   union : UnionAt s mark f outers all []
-  comes : runMembers judged all outers [] ≡ runPair judged t u
+  comes : runMembers judged all outers [] ≡ runPair judged (meeting t u)
 
 lines-some : (ts : List Ty) → 1 ≤ length ts → 2 ≤ length (linesOf ts)
 unfolding linesOf
@@ -310,7 +311,7 @@ plain-operand : {s : Bytes} {mark a ae : ℕ} {t : Ty} → Operand s a ae mark t
 plain-operand o u = record { regular = o .regular; small = o .small; single = u }
 
 module _ {s : Bytes} {mark a ae b be arm : ℕ} {q : Pairing} (sd : Sides arm a ae b be q) where
-  begins : {t u : Ty} → Operand s a ae mark t → Operand s b be mark u → mark + 1024 * slots t u ≤ length s → UnionArm t u arm → Begins s mark (begun (emptyFrame 10) q) t u
+  begins : {t u : Ty} → Operand s a ae mark t → Operand s b be mark u → mark + 1024 * slots t u ≤ length s → UnionArm t u (meeting t u) arm → Begins s mark (begun (emptyFrame 10) q) t u
   begins {t} {u} x y room (both ts us p r e c) =
       let x₁ : Operand s a ae mark (tUnion ts) = subst (λ (z : Ty). Operand s a ae mark z) p x in
       let y₁ : Operand s b be mark (tUnion us) = subst (λ (z : Ty). Operand s b be mark z) r y in

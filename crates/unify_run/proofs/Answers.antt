@@ -2,15 +2,16 @@
 use mathlib.Core.Path.{_≡_, refl, sym, _∙_, subst}
 use mathlib.Core.List.{List, [], _∷_}
 use mathlib.Core.Option.{Option, none, some}
-use mathlib.Core.Bool.{Bool, true, false, _&&_, _||_}
+use mathlib.Core.Bool.{Bool, true, false, _||_}
 use Prim.Native.Nat.{ℕ, suc, zero, _+_, _≤_}
 use native.Mathlib.Omega.{arith}
 use Rattle.semantics.specs.Limits.{typeLimit, nestingLimit}
 use Rattle.semantics.specs.Bytes.{Bytes, same}
-use Rattle.semantics.specs.Ty.{tAny, tNull, tUnknown, Ty, base, tList, tMap, tNode, tRelationship, tUnion, Fields, ∅ᶠ, field, members, among, matches, equal, nesting, nestingF, tooLarge, setField, getField}
-use Rattle.semantics.specs.Unify.{Answer, Unified, gives, onAgreed, onField, tested, unifyMaps, Variants, variantsWith, widened, unifyUnionWith, numbers, pair, arms, unifyIn, unify}
+use Rattle.semantics.specs.Ty.{tAny, tNull, tUnknown, Ty, tList, tMap, tUnion, Fields, ∅ᶠ, field, members, matches, equal, nesting, nestingF, tooLarge, setField, getField}
+use Rattle.semantics.specs.Unify.{Answer, Unified, gives, onAgreed, onField, tested, unifyMaps, Variants, variantsWith, widened, unifyUnionWith, Meeting, pair, arms, unifyIn, unify}
 use Rattle.semantics.specs.Calls.{anyLarge}
 use Rattle.semantics.proofs.All.{either}
+use Rattle.semantics.proofs.Meetings.{Met, two-numbers, two-lists, two-maps, two-nodes, two-relationships, two-unions, union-left, union-right, no-rule, met}
 use Rattle.semantics.proofs.Regular.{Regular}
 use Rattle.semantics.proofs.RegularUnify.{RegularAnswer, unify-answer}
 use Rattle.unify_run.specs.Run.{Run, done, mismatch, large, answered, unless, verdict, checked, onDone}
@@ -95,44 +96,17 @@ list-apart rec k t u p q =
     let j = element-inside u in
     agreed-apart (rec t u) (λ v. gives [] (tList v)) (k t u (omega arith) (omega arith)) (λ v. tt)
 
-pair-apart : (rec : Ty → Ty → Unified) → Keeps rec → Keeps (pair rec)
+pair-apart : (rec : Ty → Ty → Unified) → Keeps rec → {a b : Ty} {m : Meeting} → Met a b m → Small a → Small b → Apart (pair rec m)
 unfolding pair
-pair-apart rec k (base b) (base c) p q = either Apart (among b numbers && among c numbers) tt (p, q)
-pair-apart rec k (base b) (tList u) p q = (p, q)
-pair-apart rec k (base b) (tMap gs) p q = (p, q)
-pair-apart rec k (base b) (tNode ks) p q = (p, q)
-pair-apart rec k (base b) (tRelationship n) p q = (p, q)
-pair-apart rec k (base b) (tUnion us) p q = union-apart rec (members us) (base b)
-pair-apart rec k (tList t) (base c) p q = (p, q)
-pair-apart rec k (tList t) (tList u) p q = list-apart rec k t u p q
-pair-apart rec k (tList t) (tMap gs) p q = (p, q)
-pair-apart rec k (tList t) (tNode ks) p q = (p, q)
-pair-apart rec k (tList t) (tRelationship n) p q = (p, q)
-pair-apart rec k (tList t) (tUnion us) p q = union-apart rec (members us) (tList t)
-pair-apart rec k (tMap fs) (base c) p q = (p, q)
-pair-apart rec k (tMap fs) (tList u) p q = (p, q)
-pair-apart rec k (tMap fs) (tMap gs) p q = maps-apart rec k fs gs fs ∅ᶠ (small-map gs q) (small-map fs p)
-pair-apart rec k (tMap fs) (tNode ks) p q = (p, q)
-pair-apart rec k (tMap fs) (tRelationship n) p q = (p, q)
-pair-apart rec k (tMap fs) (tUnion us) p q = union-apart rec (members us) (tMap fs)
-pair-apart rec k (tNode ls) (base c) p q = (p, q)
-pair-apart rec k (tNode ls) (tList u) p q = (p, q)
-pair-apart rec k (tNode ls) (tMap gs) p q = (p, q)
-pair-apart rec k (tNode ls) (tNode ks) p q = tt
-pair-apart rec k (tNode ls) (tRelationship n) p q = (p, q)
-pair-apart rec k (tNode ls) (tUnion us) p q = union-apart rec (members us) (tNode ls)
-pair-apart rec k (tRelationship m) (base c) p q = (p, q)
-pair-apart rec k (tRelationship m) (tList u) p q = (p, q)
-pair-apart rec k (tRelationship m) (tMap gs) p q = (p, q)
-pair-apart rec k (tRelationship m) (tNode ks) p q = (p, q)
-pair-apart rec k (tRelationship m) (tRelationship n) p q = tt
-pair-apart rec k (tRelationship m) (tUnion us) p q = union-apart rec (members us) (tRelationship m)
-pair-apart rec k (tUnion ts) (base c) p q = union-apart rec (members ts) (base c)
-pair-apart rec k (tUnion ts) (tList u) p q = union-apart rec (members ts) (tList u)
-pair-apart rec k (tUnion ts) (tMap gs) p q = union-apart rec (members ts) (tMap gs)
-pair-apart rec k (tUnion ts) (tNode ks) p q = union-apart rec (members ts) (tNode ks)
-pair-apart rec k (tUnion ts) (tRelationship n) p q = union-apart rec (members ts) (tRelationship n)
-pair-apart rec k (tUnion ts) (tUnion us) p q = union-apart rec (members ts) (tUnion us)
+pair-apart rec k (two-numbers b c x y) p q = tt
+pair-apart rec k (two-lists t u) p q = list-apart rec k t u p q
+pair-apart rec k (two-maps fs gs) p q = maps-apart rec k fs gs fs ∅ᶠ (small-map gs q) (small-map fs p)
+pair-apart rec k (two-nodes ls ks) p q = tt
+pair-apart rec k (two-relationships m n) p q = tt
+pair-apart rec k (two-unions ts us) p q = union-apart rec (members ts) (tUnion us)
+pair-apart rec k (union-left ts u x) p q = union-apart rec (members ts) u
+pair-apart rec k (union-right t us x) p q = union-apart rec (members us) t
+pair-apart rec k (no-rule a b e) p q = (p, q)
 
 arms-apart : (rec : Ty → Ty → Unified) → Keeps rec → Keeps (arms rec)
 unfolding arms
@@ -140,7 +114,7 @@ arms-apart rec k a b p q =
     either Apart (matches a (tAny ∷ [])) tt
     (either Apart (matches b (tAny ∷ [])) tt
     (either Apart (matches a (tUnknown ∷ []) || matches b (tUnknown ∷ [])) tt
-    (either Apart (equal a b) tt (either Apart (matches a (tNull ∷ [])) tt (either Apart (matches b (tNull ∷ [])) tt (pair-apart rec k a b p q))))))
+    (either Apart (equal a b) tt (either Apart (matches a (tNull ∷ [])) tt (either Apart (matches b (tNull ∷ [])) tt (pair-apart rec k (met a b) p q))))))
 
 unify-in-apart : (n : ℕ) → Keeps (unifyIn n)
 unfolding unifyIn

@@ -2,7 +2,7 @@
 use mathlib.Core.Path.{_≡_, refl, sym, _∙_, ap}
 use mathlib.Core.List.{List, [], _∷_}
 use mathlib.Core.Option.{Option, none, some}
-use mathlib.Core.Bool.{Bool, true, false, _&&_, _||_, false≢true}
+use mathlib.Core.Bool.{Bool, true, false, _||_, false≢true}
 use Prim.Native.Nat.{ℕ, suc, zero, _+_, _≤_, _<_}
 use native.Mathlib.Nat.{le-refl}
 use native.Mathlib.Omega.{arith}
@@ -10,10 +10,11 @@ use lib.Dec.{ltb}
 use borrow.Author.Tests.{ltb-true, lt-ltb}
 use Rattle.semantics.specs.Limits.{typeLimit, nestingLimit}
 use Rattle.semantics.specs.Bytes.{Bytes, same}
-use Rattle.semantics.specs.Ty.{tAny, tNull, tNum, tUnknown, Ty, base, tList, tMap, tNode, tRelationship, tUnion, Tys, Fields, ∅ᶠ, field, members, among, matches, lineTo, line, equal, nesting, nestingF, tooLarge, insert, inserts, opened, gather, joined, unite, union?}
-use Rattle.semantics.specs.Unify.{Unified, gives, differs, unites, onAgreed, tested, unifyMaps, unifyLabelSets, unifyNames, unifyUnionWith, numbers, pair, arms, unify}
+use Rattle.semantics.specs.Ty.{tAny, tNull, tNum, tUnknown, Ty, base, tList, tMap, tNode, tRelationship, tUnion, Tys, Fields, ∅ᶠ, field, members, matches, lineTo, line, equal, nesting, nestingF, tooLarge, insert, inserts, opened, gather, joined, unite}
+use Rattle.semantics.specs.Unify.{Unified, gives, differs, unites, onAgreed, tested, unifyMaps, unifyLabelSets, unifyNames, unifyUnionWith, Meeting, pair, arms, unify}
 use Rattle.semantics.proofs.All.{All, empty, also, all-weaken}
 use Rattle.semantics.proofs.Order.{TriTy, lt, eq, gt, triTy, insert-lt, insert-gt, inserts-swap, same-eq, equal-refl}
+use Rattle.semantics.proofs.Meetings.{Met, two-numbers, two-lists, two-maps, two-nodes, two-relationships, two-unions, union-left, union-right, no-rule, met}
 use Rattle.semantics.proofs.Regular.{Regular, RegularF, Member}
 use Rattle.unify_run.specs.Run.{Run, done, mismatch, large, verdict, checked, onDone, given, long, kept, add, sizes, nullable, runMaps, runMembers, runPair, runArms, runUnify, run}
 use Rattle.unify_run.specs.Claims.{RunningUnify}
@@ -175,44 +176,17 @@ module _ (k : ℕ) (rec : Ty → Ty → Run) (right : Right k rec) where
   differ : (a b : Ty) → Says (mismatch a b) (differs a b)
   differ a b = record { says = sym (verdict-differs a b) }
 
-  pair-run : (a b : Ty) → nesting a + nesting b ≤ k → Regular a → Small a → Regular b → Small b → matches a (tNull ∷ []) ≡ false → matches b (tNull ∷ []) ≡ false → equal a b ≡ false → Says (runPair rec a b) (pair unify a b)
-  unfolding runPair pair union?
-  pair-run (base b) (base c) l p s q t m n e = branch (among b numbers && among c numbers) (λ h. record { says = fixed (base tNum) (base-small tNum) }) (λ h. differ (base b) (base c))
-  pair-run (base b) (tList u) l p s q t m n e = differ (base b) (tList u)
-  pair-run (base b) (tMap gs) l p s q t m n e = differ (base b) (tMap gs)
-  pair-run (base b) (tNode ks) l p s q t m n e = differ (base b) (tNode ks)
-  pair-run (base b) (tRelationship r) l p s q t m n e = differ (base b) (tRelationship r)
-  pair-run (base b) (tUnion us) l p s q t m n e = record { says = union-run (base b) us refl m l p s q t }
-  pair-run (tList x) (base c) l p s q t m n e = differ (tList x) (base c)
-  pair-run (tList x) (tList u) l p s q t m n e = record { says = lists-pair x u l p s q t }
-  pair-run (tList x) (tMap gs) l p s q t m n e = differ (tList x) (tMap gs)
-  pair-run (tList x) (tNode ks) l p s q t m n e = differ (tList x) (tNode ks)
-  pair-run (tList x) (tRelationship r) l p s q t m n e = differ (tList x) (tRelationship r)
-  pair-run (tList x) (tUnion us) l p s q t m n e = record { says = union-run (tList x) us refl m l p s q t }
-  pair-run (tMap fs) (base c) l p s q t m n e = differ (tMap fs) (base c)
-  pair-run (tMap fs) (tList u) l p s q t m n e = differ (tMap fs) (tList u)
-  pair-run (tMap fs) (tMap gs) l p s q t m n e = record { says = maps-pair fs gs l p s q t }
-  pair-run (tMap fs) (tNode ks) l p s q t m n e = differ (tMap fs) (tNode ks)
-  pair-run (tMap fs) (tRelationship r) l p s q t m n e = differ (tMap fs) (tRelationship r)
-  pair-run (tMap fs) (tUnion us) l p s q t m n e = record { says = union-run (tMap fs) us refl m l p s q t }
-  pair-run (tNode ls) (base c) l p s q t m n e = differ (tNode ls) (base c)
-  pair-run (tNode ls) (tList u) l p s q t m n e = differ (tNode ls) (tList u)
-  pair-run (tNode ls) (tMap gs) l p s q t m n e = differ (tNode ls) (tMap gs)
-  pair-run (tNode ls) (tNode ks) l p s q t m n e = record { says = nodes-run ls ks p q ∙ sym (verdict-gives (tNode (unifyLabelSets ls ks))) }
-  pair-run (tNode ls) (tRelationship r) l p s q t m n e = differ (tNode ls) (tRelationship r)
-  pair-run (tNode ls) (tUnion us) l p s q t m n e = record { says = union-run (tNode ls) us refl m l p s q t }
-  pair-run (tRelationship r) (base c) l p s q t m n e = differ (tRelationship r) (base c)
-  pair-run (tRelationship r) (tList u) l p s q t m n e = differ (tRelationship r) (tList u)
-  pair-run (tRelationship r) (tMap gs) l p s q t m n e = differ (tRelationship r) (tMap gs)
-  pair-run (tRelationship r) (tNode ks) l p s q t m n e = differ (tRelationship r) (tNode ks)
-  pair-run (tRelationship r) (tRelationship o) l p s q t m n e = record { says = fixed (tRelationship none) rel-small ∙ ap (λ x. verdict (tested (gives [] (tRelationship x)))) (sym (rel-none r o e)) }
-  pair-run (tRelationship r) (tUnion us) l p s q t m n e = record { says = union-run (tRelationship r) us refl m l p s q t }
-  pair-run (tUnion ts) (base c) l p s q t m n e = record { says = union-run (base c) ts refl n (omega arith) q t p s }
-  pair-run (tUnion ts) (tList u) l p s q t m n e = record { says = union-run (tList u) ts refl n (omega arith) q t p s }
-  pair-run (tUnion ts) (tMap gs) l p s q t m n e = record { says = union-run (tMap gs) ts refl n (omega arith) q t p s }
-  pair-run (tUnion ts) (tNode ks) l p s q t m n e = record { says = union-run (tNode ks) ts refl n (omega arith) q t p s }
-  pair-run (tUnion ts) (tRelationship r) l p s q t m n e = record { says = union-run (tRelationship r) ts refl n (omega arith) q t p s }
-  pair-run (tUnion ts) (tUnion us) l p s q t m n e = record { says = unions-both ts us l p s q t }
+  pair-run : {a b : Ty} {r : Meeting} → Met a b r → nesting a + nesting b ≤ k → Regular a → Small a → Regular b → Small b → matches a (tNull ∷ []) ≡ false → matches b (tNull ∷ []) ≡ false → equal a b ≡ false → Says (runPair rec r) (pair unify r)
+  unfolding runPair pair
+  pair-run (two-numbers b c x y) l p s q t m n e = record { says = fixed (base tNum) (base-small tNum) }
+  pair-run (two-lists x u) l p s q t m n e = record { says = lists-pair x u l p s q t }
+  pair-run (two-maps fs gs) l p s q t m n e = record { says = maps-pair fs gs l p s q t }
+  pair-run (two-nodes ls ks) l p s q t m n e = record { says = nodes-run ls ks p q ∙ sym (verdict-gives (tNode (unifyLabelSets ls ks))) }
+  pair-run (two-relationships r o) l p s q t m n e = record { says = fixed (tRelationship none) rel-small ∙ ap (λ x. verdict (tested (gives [] (tRelationship x)))) (sym (rel-none r o e)) }
+  pair-run (two-unions ts us) l p s q t m n e = record { says = unions-both ts us l p s q t }
+  pair-run (union-left ts u x) l p s q t m n e = record { says = union-run u ts x n (omega arith) q t p s }
+  pair-run (union-right x us y) l p s q t m n e = record { says = union-run x us y m l p s q t }
+  pair-run (no-rule a b x) l p s q t m n e = differ a b
 
   arms-says : (a b : Ty) → nesting a + nesting b ≤ k → Regular a → Regular b → Small a → Small b → Says (runArms rec a b) (arms unify a b)
   unfolding runArms arms
@@ -222,7 +196,7 @@ module _ (k : ℕ) (rec : Ty → Ty → Run) (right : Right k rec) where
       (λ h. branch (matches a (tUnknown ∷ []) || matches b (tUnknown ∷ [])) (λ h. record { says = fixed (base tUnknown) (base-small tUnknown) })
       (λ h. branch (equal a b) (λ h. record { says = copied a s })
       (λ e. branch (matches a (tNull ∷ [])) (λ h. record { says = nullable-run b q t })
-      (λ m. branch (matches b (tNull ∷ [])) (λ h. record { says = nullable-run a p s }) (λ n. pair-run a b l p s q t m n e))))))
+      (λ m. branch (matches b (tNull ∷ [])) (λ h. record { says = nullable-run a p s }) (λ n. pair-run (met a b) l p s q t m n e))))))
 
 -- ## The theorem
 

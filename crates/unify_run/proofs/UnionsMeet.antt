@@ -8,9 +8,10 @@ use native.Mathlib.Omega.{arith}
 use lib.ListN.{length, length-append}
 use Rattle.semantics.specs.Bytes.{lex, same}
 use Rattle.semantics.specs.Ty.{Base, tAny, tNull, tBool, tInt, tFloat, tNum, tString, tDate, tDatetime, tPath, tUnknown, Ty, base, tList, tMap, tNode, tRelationship, tUnion, Tys, members, letter, among, matches, lineTo, line, equal, nesting, tooLarge, insert, inserts, opened, gather, joined, unite, union?}
-use Rattle.semantics.specs.Unify.{Answer, Unified, gives, unites, tested, unifyUnionWith, pair, arms, unify}
+use Rattle.semantics.specs.Unify.{Answer, Unified, gives, unites, tested, unifyUnionWith, meeting, pair, arms, unify}
 use Rattle.semantics.specs.Calls.{anyLarge}
 use Rattle.semantics.proofs.All.{All, empty, also, all-weaken, all-append}
+use Rattle.semantics.proofs.Meetings.{meets-union}
 use Rattle.semantics.proofs.Order.{equal-eq, insert-eq, inserts-swap, gather-append, gather-swap}
 use Rattle.semantics.proofs.Regular.{Regular, Member, regular-members}
 use Rattle.semantics.proofs.RegularUnify.{RegularAnswer, RegularUnified, unify-answer}
@@ -215,14 +216,9 @@ kind (tNode ls) = other refl refl refl
 kind (tRelationship n) = other refl refl refl
 kind (tUnion ts) = other refl refl refl
 
-pair-union : (rec : Ty → Ty → Unified) (o : Ty) (us : Tys) → Plain o → pair rec o (tUnion us) ≡ unifyUnionWith rec (members us) o
-unfolding pair union?
-pair-union rec (base b) us p = refl
-pair-union rec (tList t) us p = refl
-pair-union rec (tMap fs) us p = refl
-pair-union rec (tNode ls) us p = refl
-pair-union rec (tRelationship n) us p = refl
-pair-union rec (tUnion ts) us p = absurd (false≢true (sym p))
+pair-union : (rec : Ty → Ty → Unified) (o : Ty) (us : Tys) → Plain o → pair rec (meeting o (tUnion us)) ≡ unifyUnionWith rec (members us) o
+unfolding pair
+pair-union rec o us p = ap (pair rec) (meets-union o us p)
 
 not-equal : (o : Ty) (us : Tys) → Plain o → equal o (tUnion us) ≡ false
 not-equal o us p = go (equal o (tUnion us)) refl

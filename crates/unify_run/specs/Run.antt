@@ -1,14 +1,14 @@
 -- `unify` as the code runs it: one running union, one partial map, and a stop at the first thing that is too large.
 use mathlib.Core.List.{List, [], _∷_, _++_}
 use mathlib.Core.Option.{Option, none, some}
-use mathlib.Core.Bool.{Bool, true, false, _&&_, _||_}
+use mathlib.Core.Bool.{Bool, true, false, _||_}
 use Prim.Native.Nat.{ℕ, suc, zero, _+_, Ordering·lt, Ordering·eq, Ordering·gt}
 use lib.ListN.{length}
 use lib.Dec.{ltb}
 use Rattle.semantics.specs.Limits.{typeLimit}
 use Rattle.semantics.specs.Bytes.{Bytes, lex}
-use Rattle.semantics.specs.Ty.{tAny, tNull, tNum, tUnknown, Ty, base, tList, tMap, tNode, tRelationship, tUnion, Fields, ∅ᶠ, field, members, among, matches, line, equal, nesting, tooLarge, inserts, opened, joined}
-use Rattle.semantics.specs.Unify.{Answer, Unified, numbers}
+use Rattle.semantics.specs.Ty.{tAny, tNull, tNum, tUnknown, Ty, base, tList, tMap, tNode, tRelationship, Fields, ∅ᶠ, field, members, matches, line, equal, nesting, tooLarge, inserts, opened, joined}
+use Rattle.semantics.specs.Unify.{Answer, Unified, Meeting, widening, lists, maps, nodes, relationships, unions, leftUnion, rightUnion, apart, meeting}
 use Rattle.semantics.specs.Calls.{anyLarge}
 
 -- the code's `Unified`
@@ -172,44 +172,17 @@ nullable t = unless (ltb typeLimit (sizes (opened t) + 2)) (given (add (base tNu
 
 -- ## The arms
 
--- two types that differ, neither Any, Unknown nor Null
-unfoldable pub runPair : (Ty → Ty → Run) → Ty → Ty → Run
-runPair rec (base b) (base c) = elim (among b numbers && among c numbers) [ true ↦ done (base tNum) | false ↦ mismatch (base b) (base c) ]
-runPair rec (base b) (tList u) = mismatch (base b) (tList u)
-runPair rec (base b) (tMap gs) = mismatch (base b) (tMap gs)
-runPair rec (base b) (tNode ls) = mismatch (base b) (tNode ls)
-runPair rec (base b) (tRelationship n) = mismatch (base b) (tRelationship n)
-runPair rec (base b) (tUnion us) = runMembers rec (members us) (base b ∷ []) []
-runPair rec (tList t) (base c) = mismatch (tList t) (base c)
-runPair rec (tList t) (tList u) = onDone (rec t u) (λ v. checked (tList v))
-runPair rec (tList t) (tMap gs) = mismatch (tList t) (tMap gs)
-runPair rec (tList t) (tNode ls) = mismatch (tList t) (tNode ls)
-runPair rec (tList t) (tRelationship n) = mismatch (tList t) (tRelationship n)
-runPair rec (tList t) (tUnion us) = runMembers rec (members us) (tList t ∷ []) []
-runPair rec (tMap fs) (base c) = mismatch (tMap fs) (base c)
-runPair rec (tMap fs) (tList u) = mismatch (tMap fs) (tList u)
-runPair rec (tMap fs) (tMap gs) = runMaps rec fs gs (kept ∅ᶠ)
-runPair rec (tMap fs) (tNode ls) = mismatch (tMap fs) (tNode ls)
-runPair rec (tMap fs) (tRelationship n) = mismatch (tMap fs) (tRelationship n)
-runPair rec (tMap fs) (tUnion us) = runMembers rec (members us) (tMap fs ∷ []) []
-runPair rec (tNode ls) (base c) = mismatch (tNode ls) (base c)
-runPair rec (tNode ls) (tList u) = mismatch (tNode ls) (tList u)
-runPair rec (tNode ls) (tMap gs) = mismatch (tNode ls) (tMap gs)
-runPair rec (tNode ls) (tNode ks) = runNodes ls ks
-runPair rec (tNode ls) (tRelationship n) = mismatch (tNode ls) (tRelationship n)
-runPair rec (tNode ls) (tUnion us) = runMembers rec (members us) (tNode ls ∷ []) []
-runPair rec (tRelationship m) (base c) = mismatch (tRelationship m) (base c)
-runPair rec (tRelationship m) (tList u) = mismatch (tRelationship m) (tList u)
-runPair rec (tRelationship m) (tMap gs) = mismatch (tRelationship m) (tMap gs)
-runPair rec (tRelationship m) (tNode ls) = mismatch (tRelationship m) (tNode ls)
-runPair rec (tRelationship m) (tRelationship n) = done (tRelationship none)
-runPair rec (tRelationship m) (tUnion us) = runMembers rec (members us) (tRelationship m ∷ []) []
-runPair rec (tUnion ts) (base c) = runMembers rec (members ts) (base c ∷ []) []
-runPair rec (tUnion ts) (tList u) = runMembers rec (members ts) (tList u ∷ []) []
-runPair rec (tUnion ts) (tMap gs) = runMembers rec (members ts) (tMap gs ∷ []) []
-runPair rec (tUnion ts) (tNode ls) = runMembers rec (members ts) (tNode ls ∷ []) []
-runPair rec (tUnion ts) (tRelationship n) = runMembers rec (members ts) (tRelationship n ∷ []) []
-runPair rec (tUnion ts) (tUnion us) = runMembers rec (members us) (members ts) []
+-- the arms from numeric widening on
+unfoldable pub runPair : (Ty → Ty → Run) → Meeting → Run
+runPair rec widening = done (base tNum)
+runPair rec (lists t u) = onDone (rec t u) (λ v. checked (tList v))
+runPair rec (maps fs gs) = runMaps rec fs gs (kept ∅ᶠ)
+runPair rec (nodes ls ks) = runNodes ls ks
+runPair rec (relationships m n) = done (tRelationship none)
+runPair rec (unions ts us) = runMembers rec (members us) (members ts) []
+runPair rec (leftUnion ts other) = runMembers rec (members ts) (other ∷ []) []
+runPair rec (rightUnion other us) = runMembers rec (members us) (other ∷ []) []
+runPair rec (apart expected actual) = mismatch expected actual
 
 unfoldable pub runArms : (Ty → Ty → Run) → Ty → Ty → Run
 runArms rec a b =
@@ -224,7 +197,7 @@ runArms rec a b =
                 | true ↦ done a
                 | false ↦ elim (matches a (tNull ∷ [])) [
                   | true ↦ nullable b
-                  | false ↦ elim (matches b (tNull ∷ [])) [ true ↦ nullable a | false ↦ runPair rec a b ]
+                  | false ↦ elim (matches b (tNull ∷ [])) [ true ↦ nullable a | false ↦ runPair rec (meeting a b) ]
                 ]
               ]
             ]

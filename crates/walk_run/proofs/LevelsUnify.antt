@@ -2,12 +2,13 @@
 use mathlib.Core.Path.{_≡_, refl, subst}
 use mathlib.Core.List.{List, [], _∷_}
 use mathlib.Core.Option.{Option, none, some}
-use mathlib.Core.Bool.{_&&_, _||_}
+use mathlib.Core.Bool.{_||_}
 use Prim.Native.Nat.{ℕ, suc, zero, _+_, _≤_, max}
 use native.Mathlib.Omega.{arith}
-use Rattle.semantics.specs.Ty.{tAny, tNull, tUnknown, Ty, base, tList, tMap, tNode, tRelationship, tUnion, Tys, Fields, ∅ᶠ, field, members, among, matches, equal, nesting, setField, getField}
-use Rattle.semantics.specs.Unify.{Answer, agreed, mismatch, Unified, gives, onAgreed, tested, onField, extras, unifyMaps, Variants, variantsWith, widened, unifyUnionWith, numbers, pair, arms, unifyIn, unify}
+use Rattle.semantics.specs.Ty.{tAny, tNull, tUnknown, Ty, base, tList, tMap, tUnion, Tys, Fields, ∅ᶠ, field, members, matches, equal, nesting, setField, getField}
+use Rattle.semantics.specs.Unify.{Answer, agreed, mismatch, Unified, gives, onAgreed, tested, onField, extras, unifyMaps, Variants, variantsWith, widened, unifyUnionWith, Meeting, pair, arms, unifyIn, unify}
 use Rattle.semantics.proofs.All.{All, empty, also, all-append, either}
+use Rattle.semantics.proofs.Meetings.{Met, two-numbers, two-lists, two-maps, two-nodes, two-relationships, two-unions, union-left, union-right, no-rule, met}
 use Rattle.walk_run.specs.Depth.{levels, levelsF}
 use Rattle.walk_run.proofs.Levels.{Low, LowF, members-low, unite-low, set-low, LowOption, get-low}
 
@@ -107,44 +108,17 @@ union-low m rec k other ts h l =
 
 -- ## The arms
 
-pair-low : (m : ℕ) (rec : Ty → Ty → Unified) → Keeps rec → (a b : Ty) → Low m a → Low m b → LowUnified m (pair rec a b)
+pair-low : (m : ℕ) (rec : Ty → Ty → Unified) → Keeps rec → {a b : Ty} {e : Meeting} → Met a b e → Low m a → Low m b → LowUnified m (pair rec e)
 unfolding pair levels
-pair-low m rec k (base b) (base c) p q = either (LowUnified m) (among b numbers && among c numbers) (omega arith) tt
-pair-low m rec k (base b) (tList u) p q = tt
-pair-low m rec k (base b) (tMap gs) p q = tt
-pair-low m rec k (base b) (tNode ks) p q = tt
-pair-low m rec k (base b) (tRelationship l) p q = tt
-pair-low m rec k (base b) (tUnion us) p q = union-low m rec k (base b) us p q
-pair-low m rec k (tList t) (base c) p q = tt
-pair-low m rec k (tList t) (tList u) p q = list-low m rec k t u p q
-pair-low m rec k (tList t) (tMap gs) p q = tt
-pair-low m rec k (tList t) (tNode ks) p q = tt
-pair-low m rec k (tList t) (tRelationship l) p q = tt
-pair-low m rec k (tList t) (tUnion us) p q = union-low m rec k (tList t) us p q
-pair-low m rec k (tMap fs) (base c) p q = tt
-pair-low m rec k (tMap fs) (tList u) p q = tt
-pair-low m rec k (tMap fs) (tMap gs) p q = map-low m rec k fs gs p q
-pair-low m rec k (tMap fs) (tNode ks) p q = tt
-pair-low m rec k (tMap fs) (tRelationship l) p q = tt
-pair-low m rec k (tMap fs) (tUnion us) p q = union-low m rec k (tMap fs) us p q
-pair-low m rec k (tNode ls) (base c) p q = tt
-pair-low m rec k (tNode ls) (tList u) p q = tt
-pair-low m rec k (tNode ls) (tMap gs) p q = tt
-pair-low m rec k (tNode ls) (tNode ks) p q = omega arith
-pair-low m rec k (tNode ls) (tRelationship l) p q = tt
-pair-low m rec k (tNode ls) (tUnion us) p q = union-low m rec k (tNode ls) us p q
-pair-low m rec k (tRelationship n) (base c) p q = tt
-pair-low m rec k (tRelationship n) (tList u) p q = tt
-pair-low m rec k (tRelationship n) (tMap gs) p q = tt
-pair-low m rec k (tRelationship n) (tNode ks) p q = tt
-pair-low m rec k (tRelationship n) (tRelationship l) p q = omega arith
-pair-low m rec k (tRelationship n) (tUnion us) p q = union-low m rec k (tRelationship n) us p q
-pair-low m rec k (tUnion ts) (base c) p q = union-low m rec k (base c) ts q p
-pair-low m rec k (tUnion ts) (tList u) p q = union-low m rec k (tList u) ts q p
-pair-low m rec k (tUnion ts) (tMap gs) p q = union-low m rec k (tMap gs) ts q p
-pair-low m rec k (tUnion ts) (tNode ks) p q = union-low m rec k (tNode ks) ts q p
-pair-low m rec k (tUnion ts) (tRelationship l) p q = union-low m rec k (tRelationship l) ts q p
-pair-low m rec k (tUnion ts) (tUnion us) p q = union-low m rec k (tUnion us) ts q p
+pair-low m rec k (two-numbers b c x y) p q = omega arith
+pair-low m rec k (two-lists t u) p q = list-low m rec k t u p q
+pair-low m rec k (two-maps fs gs) p q = map-low m rec k fs gs p q
+pair-low m rec k (two-nodes ls ks) p q = omega arith
+pair-low m rec k (two-relationships l n) p q = omega arith
+pair-low m rec k (two-unions ts us) p q = union-low m rec k (tUnion us) ts q p
+pair-low m rec k (union-left ts u x) p q = union-low m rec k u ts q p
+pair-low m rec k (union-right t us x) p q = union-low m rec k t us p q
+pair-low m rec k (no-rule a b x) p q = tt
 
 arms-low : (rec : Ty → Ty → Unified) → Keeps rec → Keeps (arms rec)
 unfolding arms levels
@@ -155,7 +129,7 @@ arms-low rec k m a b p q =
     (either (LowUnified m) (matches a (tUnknown ∷ []) || matches b (tUnknown ∷ [])) (omega arith)
     (either (LowUnified m) (equal a b) p
     (either (LowUnified m) (matches a (tNull ∷ [])) (unite-low m (also {x = base tNull} null (also q empty)))
-    (either (LowUnified m) (matches b (tNull ∷ [])) (unite-low m (also {x = base tNull} null (also p empty))) (pair-low m rec k a b p q))))))
+    (either (LowUnified m) (matches b (tNull ∷ [])) (unite-low m (also {x = base tNull} null (also p empty))) (pair-low m rec k (met a b) p q))))))
 
 unify-in-low : (n : ℕ) → Keeps (unifyIn n)
 unfolding unifyIn
