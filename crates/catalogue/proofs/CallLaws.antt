@@ -13,7 +13,7 @@ use Rattle.text.specs.Text.{some?}
 use Rattle.text.proofs.Laws.{part-slice}
 use Rattle.semantics.specs.Bytes.{Bytes}
 use Rattle.semantics.specs.Ty.{typeLine}
-use Rattle.catalogue.specs.Catalogue.{Live, Catalogue, roomLimit, numberLimit, usesLimit, taken, low, stored, readStore, Told, refuses, tells, withText, withNumber, used, enterOld, enterNew, enterBy, enter, releaseBy, release, lookUpBy, lookUp, Ask, entering, releasing, lookingUp, call, Kept, callBy, storeCall, linePlace, placeIn, placeOf}
+use Rattle.stores.specs.Catalogue.{Live, Catalogue, roomLimit, numberLimit, usesLimit, taken, low, stored, readStore, Told, refuses, tells, withText, withNumber, used, enterOld, enterNew, enterBy, enter, releaseBy, release, lookUpBy, lookUp, Ask, entering, releasing, lookingUp, call, Kept, callBy, storeCall, linePlace, placeIn, placeOf}
 use Rattle.catalogue.specs.Places.{Small, at16, at32, Run, spotAt, hasText, hasNumber}
 use Rattle.catalogue.specs.Checks.{checkOf}
 use Rattle.catalogue.specs.Stands.{Open, Opened, Stands, Standing, StandsTo, EndsAt, keptOf, keptAs, keptBy, lookedBy, Looks, Looked, lookedAs, added}

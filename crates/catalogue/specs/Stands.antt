@@ -6,7 +6,7 @@ use Prim.Native.Nat.{ℕ, _+_, _≤_}
 use lib.ListN.{length}
 use lib.Seq.{slice, sets}
 use Rattle.semantics.specs.Bytes.{Bytes}
-use Rattle.catalogue.specs.Catalogue.{Live, Catalogue, low, taken, stored, readStore, Called, Kept, lookingUp, storeCall, placeOf, storeHead, entryHead}
+use Rattle.stores.specs.Catalogue.{Live, Catalogue, low, taken, stored, readStore, Called, Kept, lookingUp, storeCall, placeOf, storeHead, entryHead}
 use Rattle.catalogue.specs.declared.Call.{Call}
 use Rattle.catalogue.specs.declared.Line.{Line}
 

@@ -10,7 +10,7 @@ ghost use Prim.Native.Nat.{ℕ, _+_, _≤_, _<_};
 ghost use lib.ListN.{length};
 ghost use lib.Seq.{slice};
 ghost use Rattle.semantics.specs.Ty.{typeLine};
-ghost use Rattle.catalogue.specs.Catalogue.{Live, Catalogue, storeHead, entryHead, taken, stored, used, enterOld, enterNew, releaseBy, lookUpBy, Kept, Told, refuses, storeCall, entering, releasing, lookingUp};
+ghost use Rattle.stores.specs.Catalogue.{Live, Catalogue, storeHead, entryHead, taken, stored, used, enterOld, enterNew, releaseBy, lookUpBy, Kept, Told, refuses, storeCall, entering, releasing, lookingUp};
 ghost use mathlib.Core.Option.{some};
 ghost use Rattle.catalogue.specs.Stands.{Open, Opened, Stands, Standing, StandsTo, keptOf, keptBy, lookedBy, Looks, Looked, added, EndsAt, lookedAs};
 ghost use Rattle.catalogue.specs.Claims.{StoreCalls};

@@ -1,23 +1,14 @@
-// The calls.
-mod checking;
-mod typing;
-mod unifying;
-
+// The calls as C has them.
 ghost use mathlib.Core.Path.{_≡_};
 ghost use Prim.Native.Nat.{_+_, _≤_};
 ghost use lib.ListN.{length};
 ghost use lib.Seq.{slice};
 ghost use Rattle.semantics.specs.Calls.{sheetCall, unifyCall};
 ghost use Rattle.old_lines.specs.Old.{regularCall};
-ghost use Rattle.cyrs.specs.Call.{settledBy};
-ghost use Rattle.cyrs.specs.Checking.{checkedBy, checkCall};
-ghost use Rattle.catalogue.specs.Catalogue.{storeCall, entering, releasing, lookingUp, placeOf};
+ghost use Rattle.unifying.specs.Call.{settledBy};
+ghost use Rattle.typing.specs.Checking.{checkedBy, checkCall};
+ghost use Rattle.stores.specs.Catalogue.{storeCall, entering, releasing, lookingUp, placeOf};
 ghost use Rattle.catalogue.specs.Stands.{keptAs, lookedAs};
-pub use checking::Checked;
-pub use checking::check_sheet;
-pub use typing::infer_types;
-pub use unifying::Call;
-pub use unifying::unify_types;
 
 // Unifies two type lines: the number, and its two numbers behind the references.
 #[no_mangle]
@@ -32,7 +23,7 @@ pub extern "C" fn cyrs_unify(
     ensures { λ r. ⌜ settledBy r (now (first .exit)) (now (second .exit)) (now (work .exit)) (now (out .exit))
         ≡ unifyCall (now (a .entry)) (now (b .entry)) (now (work .entry)) (now (out .entry)) ⌝ }
 {
-    let c = unify_types(a, b, work, out);
+    let c = unifying::unify_types(a, b, work, out);
     *first = c.first;
     *second = c.second;
     c.number
@@ -49,7 +40,7 @@ pub extern "C" fn cyrs_infer_types(
     ensures { λ r. ⌜ settledBy r (now (first .exit)) 0 (now (work .exit)) (now (out .exit))
         ≡ sheetCall (now (sheet .entry)) (now (work .entry)) (now (out .entry)) ⌝ }
 {
-    let c = infer_types(sheet, work, out);
+    let c = typing::infer_types(sheet, work, out);
     *first = c.first;
     c.number
 }
@@ -59,7 +50,7 @@ pub extern "C" fn cyrs_infer_types(
 pub extern "C" fn cyrs_check_sheet(sheet: &[u8], place: &mut u64) -> u32
     ensures { λ r. ⌜ checkedBy r (now (place .exit)) ≡ checkCall (now (sheet .entry)) ⌝ }
 {
-    let c = check_sheet(sheet);
+    let c = typing::check_sheet(sheet);
     *place = c.place;
     c.number
 }

@@ -7,8 +7,8 @@ use lib.ListN.{length, replicate}
 use borrow.Author.Tests.{eqb-true, eqb-false}
 use Rattle.semantics.specs.Bytes.{Bytes}
 use Rattle.semantics.specs.Calls.{Settled}
-use Rattle.cyrs.specs.Call.{settledBy}
-use Rattle.cyrs.specs.declared.unifying.Call.{Call}
+use Rattle.unifying.specs.Call.{settledBy}
+use Rattle.unifying.specs.declared.Call.{Call}
 use Rattle.replay.specs.declared.Want.{Want}
 use Rattle.replay.specs.declared.Verdict.{Verdict}
 use Rattle.replay.specs.declared.Verdict.the-variants.{Same, Differs}

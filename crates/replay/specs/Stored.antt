@@ -8,8 +8,8 @@ use lib.Dec.{eqb, leb, ltb}
 use Rattle.semantics.specs.Bytes.{Bytes}
 use Rattle.semantics.specs.Calls.{Settled, sheetCall, unifyCall}
 use Rattle.old_lines.specs.Old.{regularCall}
-use Rattle.cyrs.specs.Call.{settledBy}
-use Rattle.cyrs.specs.declared.unifying.Call.{Call}
+use Rattle.unifying.specs.Call.{settledBy}
+use Rattle.unifying.specs.declared.Call.{Call}
 use Rattle.replay.specs.declared.Want.{Want}
 use Rattle.replay.specs.declared.Kind.{Kind}
 use Rattle.replay.specs.declared.Kind.the-variants.{Sheet, Pair, Old}

@@ -6,7 +6,7 @@ ghost use Prim.Native.Nat.{_≤_, _<_};
 ghost use lib.ListN.{length, replicate};
 ghost use Rattle.semantics.specs.Calls.{sheetCall, unifyCall};
 ghost use Rattle.old_lines.specs.Old.{regularCall};
-ghost use Rattle.cyrs.specs.Call.{settledBy};
+ghost use Rattle.unifying.specs.Call.{settledBy};
 ghost use Rattle.replay.specs.Judged.{Decides, Judges};
 ghost use Rattle.replay.specs.Stored.{filled, workByte, outByte, Answers, storedBy, Agrees};
 
@@ -238,7 +238,7 @@ fn is_left(number: u32, work: &[u8], out: &[u8], expected: &[u8]) -> bool
     is_then(out, expected, in_out(number))
 }
 
-fn is_answer(c: cyrs::Call, want: Want) -> bool
+fn is_answer(c: unifying::Call, want: Want) -> bool
     ensures { λ r. ⌜ Decides r (Answers c want) ⌝ }
 {
     if c.number as u64 != want.number as u64 {
@@ -251,7 +251,7 @@ fn is_answer(c: cyrs::Call, want: Want) -> bool
 }
 
 // Whether the answer and the buffers that a call left are as the case says.
-fn judge(c: cyrs::Call, work: &[u8], out: &[u8], want: Want, expected: &[u8]) -> Verdict
+fn judge(c: unifying::Call, work: &[u8], out: &[u8], want: Want, expected: &[u8]) -> Verdict
     ensures { λ r. ⌜ Judges r (settledBy (c .number) (c .first) (c .second) (now (work .entry)) (now (out .entry))
         ≡ storedBy want (length (now (work .entry))) (length (now (out .entry))) (now (expected .entry))) ⌝ }
 {
@@ -269,7 +269,7 @@ fn infer(sheet: &[u8], work: &mut [u8], out: &mut [u8], want: Want, expected: &[
     ensures { λ r. ⌜ Judges r (sheetCall (now (sheet .entry)) (now (work .entry)) (now (out .entry))
         ≡ storedBy want (length (now (work .entry))) (length (now (out .entry))) (now (expected .entry))) ⌝ }
 {
-    let c = cyrs::infer_types(sheet, work, out);
+    let c = typing::infer_types(sheet, work, out);
     judge(c, work, out, want, expected)
 }
 
@@ -285,7 +285,7 @@ fn unify(
     ensures { λ r. ⌜ Judges r (unifyCall (now (a .entry)) (now (b .entry)) (now (work .entry)) (now (out .entry))
         ≡ storedBy want (length (now (work .entry))) (length (now (out .entry))) (now (expected .entry))) ⌝ }
 {
-    let c = cyrs::unify_types(a, b, work, out);
+    let c = unifying::unify_types(a, b, work, out);
     judge(c, work, out, want, expected)
 }
 
@@ -295,7 +295,7 @@ fn regular(line: &[u8], work: &mut [u8], out: &mut [u8], want: Want, expected: &
         ≡ storedBy want (length (now (work .entry))) (length (now (out .entry))) (now (expected .entry))) ⌝ }
 {
     let o = old::regular_line(line, work, out);
-    let c = cyrs::Call {
+    let c = unifying::Call {
         number: o.number,
         first: o.first,
         second: 0,

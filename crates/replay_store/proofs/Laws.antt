@@ -10,10 +10,10 @@ use lib.ListN.{length, take, drop, length-replicate}
 use lib.Seq.{sets, sets-eq, take-append-add}
 use Rattle.semantics.specs.Bytes.{Bytes, same}
 use Rattle.semantics.proofs.Order.{same-eq}
-use Rattle.catalogue.specs.Catalogue.{Kept}
+use Rattle.stores.specs.Catalogue.{Kept}
 use Rattle.catalogue.specs.Stands.{keptBy, lookedAs}
 use Rattle.catalogue.specs.declared.Call.{Call}
-use Rattle.catalogue.proofs.Stored.{blank}
+use Rattle.stores.proofs.Stored.{blank}
 use Rattle.replay_store.specs.declared.Want.{Want}
 use Rattle.replay_store.specs.declared.Kind.{Kind}
 use Rattle.replay_store.specs.declared.Verdict.{Verdict}

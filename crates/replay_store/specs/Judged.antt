@@ -4,7 +4,7 @@ use mathlib.Core.List.{_++_}
 use Prim.Native.Nat.{ℕ, _-_}
 use lib.ListN.{length, replicate}
 use Rattle.semantics.specs.Bytes.{Bytes}
-use Rattle.catalogue.specs.Catalogue.{Kept, storeCall, entering, releasing, lookingUp}
+use Rattle.stores.specs.Catalogue.{Kept, storeCall, entering, releasing, lookingUp}
 use Rattle.catalogue.specs.Stands.{keptAs, lookedAs}
 use Rattle.catalogue.specs.declared.Call.{Call}
 use Rattle.replay_store.specs.declared.Want.{Want}

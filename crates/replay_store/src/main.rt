@@ -6,7 +6,7 @@ ghost use mathlib.Core.Bool.{true};
 ghost use mathlib.Core.Path.{_≡_};
 ghost use Prim.Native.Nat.{_≤_, _<_};
 ghost use lib.ListN.{length};
-ghost use Rattle.catalogue.specs.Catalogue.{storeCall, entering, releasing, lookingUp};
+ghost use Rattle.stores.specs.Catalogue.{storeCall, entering, releasing, lookingUp};
 ghost use Rattle.catalogue.specs.Stands.{lookedAs};
 ghost use Rattle.replay_store.specs.Judged.{Judges, Answers, keptOf, padded, Agrees};
 

@@ -18,7 +18,7 @@ fn print_sheet(sheet: &[u8], out: &mut [u8]) -> usize
     ensures { λ r. ⌜ (r ≤ length (now (out .entry))) × (take r (now (out .exit)) ≡ sheetText (length (now (out .entry))) (now (sheet .entry))) ⌝ }
 {
     let mut work = [0u8; semantics::WORK_SIZE];
-    let c = cyrs::infer_types(sheet, &mut work, out);
+    let c = typing::infer_types(sheet, &mut work, out);
     if c.number == semantics::ACCEPTED {
         return c.first as usize;
     }

@@ -7,7 +7,7 @@ use borrow.Author.Tests.{eq-eqb, ne-eqb}
 use lib.ListN.{length}
 use Rattle.semantics.specs.Bytes.{Bytes, text}
 use Rattle.report.specs.Report.{Appends, numbersText}
-use Rattle.catalogue.specs.Catalogue.{Ask, Kept, storeCall}
+use Rattle.stores.specs.Catalogue.{Ask, Kept, storeCall}
 use Rattle.typestore.specs.Answers.{doneText, saidText, answerText, Says, Answers}
 use Rattle.typestore.specs.Files.{Within}
 use Rattle.typestore.specs.declared.answer.Said.{Said}

@@ -9,7 +9,7 @@ use lib.Seq.{length-sets}
 use Rattle.semantics.specs.Bytes.{Bytes, text}
 use Rattle.report.specs.Report.{Appends, numbersText}
 use Rattle.report.proofs.ReportLaws.{_▹_}
-use Rattle.catalogue.specs.Catalogue.{Live, Catalogue, taken, readStore}
+use Rattle.stores.specs.Catalogue.{Live, Catalogue, taken, readStore}
 use Rattle.catalogue.specs.Places.{at16, at32, Here, Run, Laid}
 use Rattle.catalogue.specs.Stands.{Opened}
 use Rattle.catalogue.proofs.PlaceLaws.{run-le, First, first, nothing-left, Walk, part-text}

@@ -9,7 +9,7 @@ use lib.ListN.{length}
 use Rattle.semantics.specs.Codes.{lineFeed, comma}
 use Rattle.semantics.specs.Bytes.{Bytes, text, shown}
 use Rattle.report.specs.Report.{Appends, numbersText, endText}
-use Rattle.catalogue.specs.Catalogue.{storeHead, Live, Catalogue, Ask, entering, releasing, lookingUp, Told, Kept, readStore, storeCall}
+use Rattle.stores.specs.Catalogue.{storeHead, Live, Catalogue, Ask, entering, releasing, lookingUp, Told, Kept, readStore, storeCall}
 use Rattle.catalogue.specs.Places.{Run}
 use Rattle.typestore.specs.declared.answer.Said.{Said}
 use Rattle.typestore.specs.declared.list.Listed.{Listed}

@@ -1,7 +1,7 @@
 // A call on a store and the line that says what came of it.
 ghost use Prim.Native.Nat.{_+_, _≤_, _<_, _^_};
 ghost use lib.ListN.{length};
-ghost use Rattle.catalogue.specs.Catalogue.{entering, releasing, lookingUp};
+ghost use Rattle.stores.specs.Catalogue.{entering, releasing, lookingUp};
 ghost use Rattle.report.specs.Report.{numbersText};
 ghost use Rattle.typestore.specs.Answers.{lineText, Says, Answers};
 use crate::list::live_line;

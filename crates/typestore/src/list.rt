@@ -2,7 +2,7 @@
 ghost use mathlib.Core.List.{[]};
 ghost use Prim.Native.Nat.{_+_, _≤_, _<_, _^_};
 ghost use lib.ListN.{length};
-ghost use Rattle.catalogue.specs.Catalogue.{storeHead, storeSize};
+ghost use Rattle.stores.specs.Catalogue.{storeHead, storeSize};
 ghost use Rattle.catalogue.specs.Places.{Laid};
 ghost use Rattle.catalogue.specs.Stands.{Opened};
 ghost use Rattle.report.specs.Report.{Appends};

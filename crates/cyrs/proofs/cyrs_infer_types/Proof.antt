@@ -1,5 +1,5 @@
 -- `cyrs_infer_types` meets its contract. Assumes nothing.
-use Rattle.cyrs.proofs.SheetLaws.{told-first}
+use Rattle.typing.proofs.SheetLaws.{told-first}
 use borrow.Author.Needs.{needs}
 use Rattle.cyrs.proofs.cyrs_infer_types.Statement.{statement}
 use Rattle.cyrs.proofs.cyrs_infer_types.Tie as tie

@@ -1,5 +1,5 @@
 -- `print_sheet`: the report as it stands, or the line of the refusal over the cleared output. Assumes nothing.
-use Rattle.cyrs.proofs.SheetLaws.{call-prints}
+use Rattle.typing.proofs.SheetLaws.{call-prints}
 use borrow.Author.Needs.{needs}
 use Rattle.typesheet.proofs.PrintLaws.{refusal-printed}
 use Rattle.typesheet.proofs.print_sheet.Statement.{statement}

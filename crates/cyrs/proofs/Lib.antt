@@ -1,4 +1,0 @@
-pub mod Deliver
-pub mod CallLaws
-pub mod SheetLaws
-pub mod CheckLaws

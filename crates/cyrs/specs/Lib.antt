@@ -1,4 +1,0 @@
-pub mod Call
-pub mod Told
-pub mod Typed
-pub mod Checking
