@@ -17,6 +17,7 @@ use Rattle.unify_run.specs.Run.{Run, done, mismatch, large, verdict}
 use Rattle.unify_run.proofs.Size.{line-two, small-sound, small-true, element-inside}
 use Rattle.unify.specs.Work.{Operand, Ready, Answered, Unifies, slots}
 use Rattle.unify.specs.declared.Unified.{Unified}
+use Rattle.unify.specs.declared.Span.{Span}
 use Rattle.unify.specs.declared.Unified.the-variants.{Done, Mismatch, TooLarge}
 use Rattle.walk_run.specs.Run.{items, meetItem, keepItem}
 use Rattle.exprs.specs.State.{textOf, place, behind, full, ChildAt, KeepAs, Keeps, SomeList, ListKept, Headed, ItemRoom, SomeItem, ItemKept}
@@ -226,9 +227,9 @@ module _ {s : Bytes} {st : Accumulator} {n : ℕ} where
         each u t c (mismatch x y) a = absurd (subst (λ (z : Unified). Answered (mismatch x y) s′ (st .len + n) z) e a)
         each u t c large a = absurd (subst (λ (z : Unified). Answered large s′ (st .len + n) z) e a)
 
-    pub item-apart : {a ae b be : ℕ} {s″ : Bytes} {k : Keep} → (st .len ≡ 2 → ⊥) → r ≡ Mismatch a ae b be → Keeps (some (items (some (base tAny)))) s′ s″ k → ItemKept s s″ st n k
+    pub item-apart : {a b : Span} {s″ : Bytes} {k : Keep} → (st .len ≡ 2 → ⊥) → r ≡ Mismatch a b → Keeps (some (items (some (base tAny)))) s′ s″ k → ItemKept s s″ st n k
     unfolding meetItem
-    item-apart {a} {ae} {b} {be} {s″} {k} two e f = item-kept two s″ k (f .long) each
+    item-apart {a} {b} {s″} {k} two e f = item-kept two s″ k (f .long) each
       where
         each : (u t : Ty) → ChildAt (items (some u)) t s st n → (v : Run) → Answered v s′ (st .len + n) r → KeepAs (meetItem v) s″ k
         each u t c (done w) g = absurd (subst (λ (z : Unified). Answered (done w) s′ (st .len + n) z) e g)

@@ -65,10 +65,8 @@ pub fn list_item(st: Accumulator, work: &mut [u8], n: usize) -> Keep
             fitted(work, 2 + (end - e))
         }
         Unified::Mismatch {
-            a: _,
-            ae: _,
-            b: _,
-            be: _,
+            expected: _,
+            actual: _,
         } => any_items(work),
         Unified::TooLarge => Keep::Large,
     }

@@ -21,6 +21,7 @@ use Rattle.builtins.proofs.Laws.{HandsBack}
 use Rattle.unify_run.specs.Run.{Run, done, mismatch, large, unless, answered, verdict}
 use Rattle.unify.specs.Work.{Operand, Ready, Answered, Unifies}
 use Rattle.unify.specs.declared.Unified.{Unified}
+use Rattle.unify.specs.declared.Span.{Span}
 use Rattle.unify.specs.declared.Unified.the-variants.{Done, Mismatch, TooLarge}
 use Rattle.walk_run.specs.Run.{told, orMuch, endIn}
 use Rattle.exprs.specs.declared.state.Accumulator.{Accumulator}
@@ -192,7 +193,7 @@ module _ {a b : Ty} {s s₁ : Bytes} {st : Accumulator} {o : Unified} (w : Unifi
       let (t, p, f) = done-run s₁ (st .len + st .second) (verdict (unify a u)) element-run k in
       ends-settled g (ap (endIn a) (element-of h q .is) ∙ in-run a u (done t) p) (w .below .long) adds-none
 
-  pub list-apart : {s′ out out′ el : Bytes} {n m : Tally} {r : Ended} {i ie j je : ℕ} → HandsBack (listPart s st) el → o ≡ Mismatch i ie j je
+  pub list-apart : {s′ out out′ el : Bytes} {n m : Tally} {r : Ended} {i j : Span} → HandsBack (listPart s st) el → o ≡ Mismatch i j
       → ((u v : Ty) → kindOf u ≡ getD s 0 0 → kindOf v ≡ getD el 0 0 → Adds (apartFaults u v) out out′ n m)
       → Settles (base tBool) s₁ s′ m r → Ends (endIn a b) s s′ out out′ n r
   list-apart z k d g =

@@ -18,6 +18,7 @@ use Rattle.unify_run.specs.Run.{Run, done, mismatch, large, verdict}
 use Rattle.unify_run.proofs.Size.{small-sound, small-true, element-inside}
 use Rattle.unify.specs.Work.{Operand, Ready, Answered, Unifies, slots}
 use Rattle.unify.specs.declared.Unified.{Unified}
+use Rattle.unify.specs.declared.Span.{Span}
 use Rattle.unify.specs.declared.Unified.the-variants.{Done, Mismatch, TooLarge}
 use Rattle.walk_run.specs.Run.{Told, told, tooMuch, orMuch, endOp}
 use Rattle.exprs.specs.State.{Fine}
@@ -70,10 +71,10 @@ module _ (s : Bytes) (m : ℕ) where
   of-done (mismatch x y) h = absurd h
   of-done large h = absurd h
 
-  of-apart : (i ie j je : ℕ) (R : Run) → Answered R s m (Mismatch i ie j je) → (x : Ty) × (y : Ty) × (R ≡ mismatch x y)
-  of-apart i ie j je (done t) h = absurd h
-  of-apart i ie j je (mismatch x y) h = (x, y, refl)
-  of-apart i ie j je large h = absurd h
+  of-apart : (i j : Span) (R : Run) → Answered R s m (Mismatch i j) → (x : Ty) × (y : Ty) × (R ≡ mismatch x y)
+  of-apart i j (done t) h = absurd h
+  of-apart i j (mismatch x y) h = (x, y, refl)
+  of-apart i j large h = absurd h
 
   of-large : (R : Run) → Answered R s m TooLarge → R ≡ large
   of-large (done t) h = absurd h
@@ -84,8 +85,8 @@ module _ (s : Bytes) (m : ℕ) where
     pub done-run : {e : ℕ} → u ≡ Done e → (t : Ty) × (R ≡ done t) × TypeAt s m e t
     done-run q = of-done R (subst (λ (x : Unified). Answered R s m x) q h)
 
-    pub apart-run : {i ie j je : ℕ} → u ≡ Mismatch i ie j je → (x : Ty) × (y : Ty) × (R ≡ mismatch x y)
-    apart-run {i} {ie} {j} {je} q = of-apart i ie j je R (subst (λ (x : Unified). Answered R s m x) q h)
+    pub apart-run : {i j : Span} → u ≡ Mismatch i j → (x : Ty) × (y : Ty) × (R ≡ mismatch x y)
+    apart-run {i} {j} q = of-apart i j R (subst (λ (x : Unified). Answered R s m x) q h)
 
     pub large-run : u ≡ TooLarge → R ≡ large
     large-run q = of-large R (subst (λ (x : Unified). Answered R s m x) q h)
@@ -126,7 +127,7 @@ module _ {s s₁ : Bytes} {st : Accumulator} {u : Unified} (w : Unifies s s₁ 0
       let (t, p, f) = done-run s₁ (st .len + st .second) (verdict (unify a b)) told-run q in
       ends-settled g (compared a b (done t) p) (w .below .long) adds-none
 
-  pub compared-apart : {s′ out : Bytes} {m : Tally} {r : Ended} {i ie j je : ℕ} → u ≡ Mismatch i ie j je → Settles (base tBool) s₁ s′ m r → Ends (endOp comparison a b) s s′ out out m r
+  pub compared-apart : {s′ out : Bytes} {m : Tally} {r : Ended} {i j : Span} → u ≡ Mismatch i j → Settles (base tBool) s₁ s′ m r → Ends (endOp comparison a b) s s′ out out m r
   compared-apart q g =
       let (x, y, p) = apart-run s₁ (st .len + st .second) (verdict (unify a b)) told-run q in
       ends-settled g (compared a b (mismatch x y) p) (w .below .long) adds-none

@@ -22,6 +22,7 @@ use Rattle.builtins.proofs.Laws.{front-line}
 use Rattle.unify_run.specs.Run.{Run, verdict}
 use Rattle.unify.specs.Work.{Operand, Ready, Answered, Unifies, slots}
 use Rattle.unify.specs.declared.Unified.{Unified}
+use Rattle.unify.specs.declared.Span.{Span}
 use Rattle.unify.specs.declared.Unified.the-variants.{Done, Mismatch, TooLarge}
 use Rattle.walk_run.specs.Run.{kept, told, orMuch, endOp}
 use Rattle.exprs.specs.declared.state.Accumulator.{Accumulator}
@@ -218,7 +219,7 @@ module _ {s s₁ : Bytes} {x y r : ℕ} (h : 8192 ≤ length s) (p : Puts (x ∷
               let x : s₃ ≡ sets s₂ 0 (line t) = c ∙ ap (λ (k : ℕ). sets s₂ 0 (slice 4 k s₂)) n ∙ ap (sets s₂ 0) (y .is) in
               rw (x, ← l) (front-line s₂ t (omega (arith, l, y .inside)))
 
-      pub computed-apart : {m : Tally} {i′ ie j′ je len : ℕ} {s₃ : Bytes} → o ≡ Mismatch i′ ie j′ je → Puts (80 ∷ 44 ∷ []) s₂ s₃ len → Computed a b s s₃ m (Typed len m)
+      pub computed-apart : {m : Tally} {i′ j′ : Span} {len : ℕ} {s₃ : Bytes} → o ≡ Mismatch i′ j′ → Puts (80 ∷ 44 ∷ []) s₂ s₃ len → Computed a b s s₃ m (Typed len m)
       unfolding letter
       computed-apart q c u v d f fs out out′ n ad =
           let (x, y, z) = apart-run s₂ 4 (verdict (unify (numeric u) (numeric v))) (run-of u v d f) q in

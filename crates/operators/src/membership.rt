@@ -42,10 +42,8 @@ fn in_list(st: Accumulator, work: &mut [u8], out: &mut [u8], tally: Tally) -> En
     match unify::unify(work, 0, k, k + 2, e, e) {
         Unified::Done(_) => is_bool(work, tally),
         Unified::Mismatch {
-            a: _,
-            ae: _,
-            b: _,
-            be: _,
+            expected: _,
+            actual: _,
         } => {
             let c = mismatch_in(a, b, out, tally);
             is_bool(work, c)

@@ -115,10 +115,8 @@ fn arithmetic(work: &mut [u8], a: u8, b: u8, tally: Tally) -> Ended
             Ended::Typed { len: n, tally }
         }
         Unified::Mismatch {
-            a: _,
-            ae: _,
-            b: _,
-            be: _,
+            expected: _,
+            actual: _,
         } => Ended::Typed {
             len: put_letter(work, UNKNOWN),
             tally,
@@ -137,10 +135,8 @@ fn comparison(st: Accumulator, work: &mut [u8], tally: Tally) -> Ended
     match unify::unify(work, 0, k, k, e, e) {
         Unified::Done(_) => is_bool(work, tally),
         Unified::Mismatch {
-            a: _,
-            ae: _,
-            b: _,
-            be: _,
+            expected: _,
+            actual: _,
         } => is_bool(work, tally),
         Unified::TooLarge => Ended::Large,
     }

@@ -214,7 +214,7 @@ module _ {s s′ : Bytes} {arm a ae b be mark : ℕ} {r : Unified} where
     flat-relationship k h = flat-answer (written-below h) (λ t u o q e. rw (k, flatRun) (written-answer h (tRelationship none) refl (omega (arith, flat-room p))))
 
 pub flat-apart : {s : Bytes} {arm a ae b be mark : ℕ} → (arm ≡ 0 → ⊥) → (arm ≡ 1 → ⊥) → (arm ≡ 2 → ⊥) → (arm ≡ 3 → ⊥) → (arm ≡ 4 → ⊥) → (arm ≡ 5 → ⊥) → (arm ≡ 8 → ⊥) → (arm ≡ 9 → ⊥)
-    → FlatAnswer s s arm a ae b be mark (Mismatch a ae b be)
+    → FlatAnswer s s arm a ae b be mark (Mismatch (record { from = a; to = ae }) (record { from = b; to = be }))
 unfolding flatRun
 flat-apart {s} {arm} {a} {ae} {b} {be} {mark} n0 n1 n2 n3 n4 n5 n8 n9 =
     flat-answer (below-same s mark)

@@ -86,11 +86,11 @@ module _ (s : Bytes) (mark : ℕ) (f : Frame) (over : 2 ≤ f .go) (not2 : f .go
       big large x = tt
 
 pub stopped-apart : (s : Bytes) (mark : ℕ) (f : Frame) → f .go ≡ 3 → (L : Left) → FrameAt s mark f L
-    → Answered (left judged L) s mark (Mismatch (f .v) (f .ve) (f .w) (f .we))
+    → Answered (left judged L) s mark (Mismatch (record { from = f .v; to = f .ve }) (record { from = f .w; to = f .we }))
 stopped-apart s mark f g =
-    only-stopped s mark f (omega arith) (λ e. omega arith) (λ (r : Run). Answered r s mark (Mismatch (f .v) (f .ve) (f .w) (f .we))) apart
+    only-stopped s mark f (omega arith) (λ e. omega arith) (λ (r : Run). Answered r s mark (Mismatch (record { from = f .v; to = f .ve }) (record { from = f .w; to = f .we }))) apart
   where
-    apart : (r : Run) → StoppedAt s mark f r → Answered r s mark (Mismatch (f .v) (f .ve) (f .w) (f .we))
+    apart : (r : Run) → StoppedAt s mark f r → Answered r s mark (Mismatch (record { from = f .v; to = f .ve }) (record { from = f .w; to = f .we }))
     apart (done t) x = absurd x
     apart (mismatch a b) x = (x .1, x .2)
     apart large x = absurd (omega arith)

@@ -23,6 +23,7 @@ use Rattle.unify.specs.Made.{SomeMade, Tested, goes, apartBy, pairBy}
 use Rattle.unify.specs.Steps.{ArmReady, Started, AnsweredPair, Pair, of-list, of-map, of-union, SomePair, Stepped, SomeEnd, Finished}
 use Rattle.unify.specs.declared.Frame.{Frame}
 use Rattle.unify.specs.declared.Unified.{Unified}
+use Rattle.unify.specs.declared.Span.{Span}
 use Rattle.unify.specs.declared.Unified.the-variants.{Done, Mismatch, TooLarge}
 use Rattle.unify.proofs.Operands.{same-operand, operand-stays, below-same, below-sets}
 use Rattle.unify.proofs.ArmLaws.{Lists, arm-lists, pair-arms, slots-one, slots-lists}
@@ -194,11 +195,11 @@ module _ {s : Bytes} {mark : ℕ} {f : Frame} where
       each t w g (mismatch x y) h = absurd h
       each t w g large h = absurd h
 
-  pub list-apart : (u : Unified) (a ae b be : ℕ) → f .kind ≡ 6 → u ≡ Mismatch a ae b be → (r : Frame) → r ≡ apartBy f a ae b be → Stepped s s mark f u r
+  pub list-apart : (u : Unified) (p q : Span) → f .kind ≡ 6 → u ≡ Mismatch p q → (r : Frame) → r ≡ apartBy f p q → Stepped s s mark f u r
   unfolding left
-  list-apart u a ae b be k e r q = rw (e, q) (list-stepped (apartBy f a ae b be) (Mismatch a ae b be) (omega arith) k each)
+  list-apart u p q k e r z = rw (e, z) (list-stepped (apartBy f p q) (Mismatch p q) (omega arith) k each)
     where
-      each : (t w : Ty) → ListPairAt s mark f t w → (j : Run) → Answered j s (f .at) (Mismatch a ae b be) → Comes s mark (apartBy f a ae b be) (onDone j (λ v. checked (tList v)))
+      each : (t w : Ty) → ListPairAt s mark f t w → (j : Run) → Answered j s (f .at) (Mismatch p q) → Comes s mark (apartBy f p q) (onDone j (λ v. checked (tList v)))
       each t w g (done v) h = absurd h
       each t w g (mismatch x y) h = record { left-of = stopped (mismatch x y); stands = (refl, h .0, h .1); comes = refl }
       each t w g large h = absurd h

@@ -94,16 +94,16 @@ loop-start s s₀ a ae b be mark r f ready is p =
 -- an answer stands in a longer text too
 answered-longer : (R : Run) (y z : Bytes) (m : ℕ) (u : Unified) → m ≤ length y → Answered R y m u → Answered R (y ++ z) m u
 answered-longer (done t) y z m (Done e) h x = type-stays (length y) y (y ++ z) (fronts-append (length y) y z (omega arith)) (x .inside) x
-answered-longer (done t) y z m (Mismatch a ae b be) h x = x
+answered-longer (done t) y z m (Mismatch p q) h x = x
 answered-longer (done t) y z m TooLarge h x = x
 answered-longer (mismatch v w) y z m (Done e) h x = x
-answered-longer (mismatch v w) y z m (Mismatch a ae b be) h x =
+answered-longer (mismatch v w) y z m (Mismatch p q) h x =
     let same : Fronts (length y) y (y ++ z) = fronts-append (length y) y z (omega arith) in
     let more : length y ≤ length (y ++ z) = rw (length-append y z) (omega arith) in
     (operand-stays (length y) y (y ++ z) same (omega arith) more (x .0), operand-stays (length y) y (y ++ z) same (omega arith) more (x .1))
 answered-longer (mismatch v w) y z m TooLarge h x = x
 answered-longer large y z m (Done e) h x = x
-answered-longer large y z m (Mismatch a ae b be) h x = x
+answered-longer large y z m (Mismatch p q) h x = x
 answered-longer large y z m TooLarge h x = x
 
 -- the same run, of another frame

@@ -30,6 +30,7 @@ use Rattle.unify.specs.Frames.{judged, Left, mapPair, stopped, left, Val
 use Rattle.unify.specs.Merges.{MergeFor, SomeMerge, Lone, Entered}
 use Rattle.unify.specs.Steps.{ArmReady, Started, measure, Pair, of-list, of-map, of-union, AnsweredPair, SomePair, Stepped}
 use Rattle.unify.specs.declared.Unified.{Unified}
+use Rattle.unify.specs.declared.Span.{Span}
 use Rattle.unify.specs.declared.Unified.the-variants.{Done, Mismatch, TooLarge}
 use Rattle.unify.specs.declared.Frame.{Frame}
 use Rattle.unify.proofs.Entries.{below-refl, below-trans, entries-same}
@@ -241,9 +242,9 @@ module _ (s : Bytes) (mark : ℕ) (f : Frame) (seven : f .kind ≡ 7) where
   done-stepped s′ u end r e h = rw e h
 
   -- no answer
-  pub apart-stepped : (u : Unified) (a ae b be : ℕ) (r : Frame) → u ≡ Mismatch a ae b be → r ≡ apartBy f a ae b be → Stepped s s mark f u r
+  pub apart-stepped : (u : Unified) (x y : Span) (r : Frame) → u ≡ Mismatch x y → r ≡ apartBy f x y → Stepped s s mark f u r
   unfolding left
-  apart-stepped u a ae b be r is e =
+  apart-stepped u x y r is e =
       rw is
       (record {
         below = below-refl s mark;
@@ -251,13 +252,13 @@ module _ (s : Bytes) (mark : ℕ) (f : Frame) (seven : f .kind ≡ 7) where
         falls = λ g. absurd (let z : r .go ≡ 3 = ap (λ (x : Frame). x .go) e in omega arith);
       })
     where
-      go : {L : Left} → MapPair (Mismatch a ae b be) L → Comes s mark (apartBy f a ae b be) (left judged L)
+      go : {L : Left} → MapPair (Mismatch x y) L → Comes s mark (apartBy f x y) (left judged L)
       go (of n t w fs gs k h answer) = by (judged t w) refl answer
         where
-          by : (r : Run) → judged t w ≡ r → Answered r s (f .at) (Mismatch a ae b be) → Comes s mark (apartBy f a ae b be) (onDone (judged t w) (λ v. runMaps judged fs gs (keep n v k)))
+          by : (r : Run) → judged t w ≡ r → Answered r s (f .at) (Mismatch x y) → Comes s mark (apartBy f x y) (onDone (judged t w) (λ v. runMaps judged fs gs (keep n v k)))
           by (done v) z d = absurd d
-          by (mismatch x y) z (c, d) =
-              record { left-of = stopped (mismatch x y); stands = (refl, c, d); comes = sym (ap (λ (r : Run). onDone r (λ v. runMaps judged fs gs (keep n v k))) z) }
+          by (mismatch v w) z (c, d) =
+              record { left-of = stopped (mismatch v w); stands = (refl, c, d); comes = sym (ap (λ (r : Run). onDone r (λ v. runMaps judged fs gs (keep n v k))) z) }
           by large z d = absurd d
 
   pub large-stepped : (u : Unified) (r : Frame) → u ≡ TooLarge → r ≡ goes f 4 → Stepped s s mark f u r

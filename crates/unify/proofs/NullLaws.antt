@@ -1,4 +1,4 @@
--- Null and a type: `with_null` and `nullable`. Assumes nothing.
+-- Null and a type: `with_null` and `unify_null`. Assumes nothing.
 use mathlib.Core.Path.{_≡_, refl, sym, _∙_, ap, subst}
 use mathlib.Core.List.{List, [], _∷_}
 use mathlib.Core.Logic.{_⊎_, inl, inr, ⊎-elim}
@@ -193,7 +193,7 @@ module _ {s s₁ s₂ : Bytes} {from n mark : ℕ} (p : SomeTypes s from n mark)
           answer = λ ts f. let z = null-size f in rw (null-over ts (omega arith) (grown-over (Nulled ts) e (null-grew ts f .answer))) tt;
         }
 
--- ## `nullable`
+-- ## `unify_null`
 
 nullable-opened : (t : Ty) → nullable t ≡ withNull (opened t)
 unfolding nullable withNull

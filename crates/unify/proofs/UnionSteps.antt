@@ -31,6 +31,7 @@ use Rattle.unify.specs.Steps.{ArmReady, measure, Started, AnsweredPair, 
 use Rattle.unify.specs.Variants.{Sides, RunningAt, Grows, SomeOuters, NextOuter, VariantsAt, SomeVariants, NextVariant}
 use Rattle.unify.specs.declared.Frame.{Frame}
 use Rattle.unify.specs.declared.Unified.{Unified}
+use Rattle.unify.specs.declared.Span.{Span}
 use Rattle.unify.specs.declared.Unified.the-variants.{Done, Mismatch, TooLarge as Over}
 use Rattle.unify.specs.declared.unions.Pairing.{Pairing}
 use Rattle.unify.proofs.Marks.{below-same, below-then, below-types, below-operand, part-types, part-type, back-below, back-types}
@@ -77,10 +78,10 @@ answer-done (done t) a = (t, refl, a)
 answer-done (mismatch x y) a = absurd a
 answer-done large a = absurd a
 
-answer-apart : (s : Bytes) (m a ae b be : ℕ) (R : Run) → Answered R s m (Mismatch a ae b be) → (x : Ty) × (y : Ty) × (R ≡ mismatch x y)
-answer-apart s m a ae b be (done t) h = absurd h
-answer-apart s m a ae b be (mismatch x y) h = (x, y, refl)
-answer-apart s m a ae b be large h = absurd h
+answer-apart : (s : Bytes) (m : ℕ) (p q : Span) (R : Run) → Answered R s m (Mismatch p q) → (x : Ty) × (y : Ty) × (R ≡ mismatch x y)
+answer-apart s m p q (done t) h = absurd h
+answer-apart s m p q (mismatch x y) h = (x, y, refl)
+answer-apart s m p q large h = absurd h
 
 answer-over : (s : Bytes) (m : ℕ) (R : Run) → Answered R s m Over → R ≡ large
 answer-over s m (done t) h = absurd h
@@ -215,11 +216,11 @@ stepped-done {s} {s′} {mark} {f} {r} e p = subst (λ (x : Unified). Stepped s 
 pub step-variants : {s : Bytes} {mark : ℕ} {f : Frame} {u : Unified} → SomePair s mark f u → f .kind ≡ 10 → SomeVariants s mark f
 step-variants q k = let p = union-pair q k in record { outer = p .o; variants = p .vs; outers = p .os; all = p .all; members = p .ms; stands = variants-of (p .stands) }
 
-pub stepped-apart : {s s′ : Bytes} {mark : ℕ} {f r : Frame} {u : Unified} {a ae b be : ℕ} → f .kind ≡ 10 → u ≡ Mismatch a ae b be → NextVariant s s′ mark f r → Stepped s s′ mark f u r
-stepped-apart {s} {s′} {mark} {f} {r} {u} {a} {ae} {b} {be} k e c =
+pub stepped-apart : {s s′ : Bytes} {mark : ℕ} {f r : Frame} {u : Unified} {i j : Span} → f .kind ≡ 10 → u ≡ Mismatch i j → NextVariant s s′ mark f r → Stepped s s′ mark f u r
+stepped-apart {s} {s′} {mark} {f} {r} {u} {i} {j} k e c =
     record {
       below = c .below;
-      frame = union-steps k (λ v o vs os all ms met p h. go p (answer-apart s (f .at) a ae b be (judged v o) (subst (λ (x : Unified). Answered (judged v o) s (f .at) x) e h)));
+      frame = union-steps k (λ v o vs os all ms met p h. go p (answer-apart s (f .at) i j (judged v o) (subst (λ (x : Unified). Answered (judged v o) s (f .at) x) e h)));
       falls = c .falls;
     }
   where
@@ -237,7 +238,7 @@ stepped-over {s} {mark} {f} {r} {u} k e g =
       falls = λ l. absurd (omega arith);
     }
 
--- ## `start_union`
+-- ## `unify_union_with`
 
 -- with these sides
 abbrev begun : Frame → Pairing → Frame

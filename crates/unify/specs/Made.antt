@@ -12,15 +12,16 @@ use Rattle.unify_run.specs.Run.{checked}
 use Rattle.unify.specs.Codes.{pairNext, nothingLeft, notUnified, unionMarks}
 use Rattle.unify.specs.Work.{Answered, Below}
 use Rattle.unify.specs.declared.Frame.{Frame}
+use Rattle.unify.specs.declared.Span.{Span}
 use Rattle.unify.specs.declared.Unified.{Unified}
 
 abbrev pub goes : Frame → ℕ → Frame
 goes f g =
     record { kind = f .kind; go = g; v = f .v; ve = f .ve; w = f .w; we = f .we; at = f .at; n = f .n; p = f .p; pe = f .pe; i = f .i; ie = f .ie; met = f .met }
 
-abbrev pub apartBy : Frame → ℕ → ℕ → ℕ → ℕ → Frame
-apartBy f a ae b be =
-    record { kind = f .kind; go = notUnified; v = a; ve = ae; w = b; we = be; at = f .at; n = f .n; p = f .p; pe = f .pe; i = f .i; ie = f .ie; met = f .met }
+abbrev pub apartBy : Frame → Span → Span → Frame
+apartBy f expected actual =
+    record { kind = f .kind; go = notUnified; v = expected .from; ve = expected .to; w = actual .from; we = actual .to; at = f .at; n = f .n; p = f .p; pe = f .pe; i = f .i; ie = f .ie; met = f .met }
 
 abbrev pub pairBy : Frame → ℕ → ℕ → ℕ → ℕ → ℕ → Frame
 pairBy f v ve w we at =

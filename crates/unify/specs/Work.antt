@@ -34,13 +34,13 @@ pub record Ready (s : Bytes) (a ae b be mark : ℕ) : Type 0 where
 -- what an answer says: where the type ends that stands at the mark now; where the two types stand that do not unify; too large
 abbrev pub Answered : Run → Bytes → ℕ → Unified → Type 0
 Answered (done t) s m (Done e) = TypeAt s m e t
-Answered (done t) s m (Mismatch a ae b be) = ⊥
+Answered (done t) s m (Mismatch expected actual) = ⊥
 Answered (done t) s m TooLarge = ⊥
 Answered (mismatch x y) s m (Done e) = ⊥
-Answered (mismatch x y) s m (Mismatch a ae b be) = Operand s a ae (length s) x × Operand s b be (length s) y
+Answered (mismatch x y) s m (Mismatch expected actual) = Operand s (expected .from) (expected .to) (length s) x × Operand s (actual .from) (actual .to) (length s) y
 Answered (mismatch x y) s m TooLarge = ⊥
 Answered large s m (Done e) = ⊥
-Answered large s m (Mismatch a ae b be) = ⊥
+Answered large s m (Mismatch expected actual) = ⊥
 Answered large s m TooLarge = Unit {0}
 
 -- what stands below the mark stays, and so does the length

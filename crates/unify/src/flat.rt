@@ -8,6 +8,7 @@ ghost use Rattle.unify.specs.Arms.{hasParts};
 ghost use Rattle.unify.specs.Made.{SomeMade, Tested, SomeUnion, ClosedUnion};
 ghost use Rattle.unify.specs.Flat.{SomeOperand, OneAnswer, Written, SomeTypes, NullAnswer, SomeNodes, NodesAnswer};
 ghost use Rattle.unify.specs.Steps.{ArmReady, FlatAnswer};
+use crate::Span;
 use crate::Unified;
 use crate::arms::ANY_UNKNOWN;
 use crate::arms::LEFT;
@@ -93,7 +94,7 @@ fn with_null(work: &mut [u8], from: usize, n: usize, mark: usize) -> Unified
 }
 
 // Null and the type [t..te): its members and Null.
-fn nullable(work: &mut [u8], t: usize, te: usize, mark: usize) -> Unified
+fn unify_null(work: &mut [u8], t: usize, te: usize, mark: usize) -> Unified
     requires { ⌜ SomeOperand (now work) t te mark ⌝ }
     ensures { λ r. ⌜ OneAnswer nullableRun (now (work .entry)) (now (work .exit)) t te mark r ⌝ }
 {
@@ -137,11 +138,14 @@ pub fn unify_flat(
         LEFT => copied(work, a, ae, mark),
         RIGHT => copied(work, b, be, mark),
         ANY_UNKNOWN => fixed(work, mark, b"P,"),
-        NULL_LEFT => nullable(work, b, be, mark),
-        NULL_RIGHT => nullable(work, a, ae, mark),
+        NULL_LEFT => unify_null(work, b, be, mark),
+        NULL_RIGHT => unify_null(work, a, ae, mark),
         NUMBERS => fixed(work, mark, b"F,"),
         NODES => unify_label_sets(work, a, b, mark),
         RELATIONSHIPS => fixed(work, mark, b"M,!,"),
-        _ => Unified::Mismatch { a, ae, b, be },
+        _ => Unified::Mismatch {
+            expected: Span { from: a, to: ae },
+            actual: Span { from: b, to: be },
+        },
     }
 }

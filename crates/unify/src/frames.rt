@@ -9,6 +9,7 @@ use crate::Frame;
 use crate::NOT_UNIFIED;
 use crate::NOTHING_LEFT;
 use crate::PAIR;
+use crate::Span;
 use crate::Unified;
 use crate::arms::LISTS;
 use crate::arms::MAPS;
@@ -19,12 +20,12 @@ use crate::lists::finish_list;
 use crate::lists::start_list;
 use crate::lists::step_list;
 use crate::maps::finish_map;
-use crate::maps::start_map;
 use crate::maps::step_map;
+use crate::maps::unify_maps;
 use crate::unions::finish_union;
 use crate::unions::skip_outer;
-use crate::unions::start_union;
 use crate::unions::step_union;
+use crate::unions::unify_union_with;
 
 // The frame of two operands whose parts are unified.
 fn start(work: &mut [u8], arm: u8, a: usize, ae: usize, b: usize, be: usize, mark: usize) -> Frame
@@ -33,8 +34,8 @@ fn start(work: &mut [u8], arm: u8, a: usize, ae: usize, b: usize, be: usize, mar
 {
     match arm {
         LISTS => start_list(work, arm, a, ae, b, be, mark),
-        MAPS => start_map(work, arm, a, ae, b, be, mark),
-        _ => start_union(work, arm, a, ae, b, be, mark),
+        MAPS => unify_maps(work, arm, a, ae, b, be, mark),
+        _ => unify_union_with(work, arm, a, ae, b, be, mark),
     }
 }
 
@@ -73,10 +74,14 @@ fn finish(work: &mut [u8], f: Frame, mark: usize) -> Unified
     match go {
         NOTHING_LEFT => finish_done(work, f, mark),
         NOT_UNIFIED => Unified::Mismatch {
-            a: f.v,
-            ae: f.ve,
-            b: f.w,
-            be: f.we,
+            expected: Span {
+                from: f.v,
+                to: f.ve,
+            },
+            actual: Span {
+                from: f.w,
+                to: f.we,
+            },
         },
         _ => Unified::TooLarge,
     }

@@ -9,15 +9,16 @@ mod unions;
 
 pub use frames::unify;
 
-// Where the answer ends; or the inner types that do not unify, still where they were; or too large.
+// Where a type stands in the work area.
+pub struct Span {
+    pub from: usize,
+    pub to: usize,
+}
+
+// Where the answer ends; or the inner types that do not unify, still where they were (`TypeMismatch`); or too large.
 pub enum Unified {
     Done(usize),
-    Mismatch {
-        a: usize,
-        ae: usize,
-        b: usize,
-        be: usize,
-    },
+    Mismatch { expected: Span, actual: Span },
     TooLarge,
 }
 

@@ -43,7 +43,7 @@ pub fn step_list(work: &mut [u8], f: Frame, u: Unified, mark: usize) -> Frame
             g.n = end - mark;
             stop(g, NOTHING_LEFT)
         }
-        Unified::Mismatch { a, ae, b, be } => apart(f, a, ae, b, be),
+        Unified::Mismatch { expected, actual } => apart(f, expected, actual),
         Unified::TooLarge => stop(f, LARGE),
     }
 }

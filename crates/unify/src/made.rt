@@ -5,6 +5,7 @@ use crate::Frame;
 use crate::NOT_UNIFIED;
 use crate::NOTHING_LEFT;
 use crate::PAIR;
+use crate::Span;
 
 pub fn stop(f: Frame, go: u8) -> Frame
     ensures { λ r. ⌜ r ≡ goes f go ⌝ }
@@ -14,15 +15,15 @@ pub fn stop(f: Frame, go: u8) -> Frame
     g
 }
 
-pub fn apart(f: Frame, a: usize, ae: usize, b: usize, be: usize) -> Frame
-    ensures { λ r. ⌜ r ≡ apartBy f a ae b be ⌝ }
+pub fn apart(f: Frame, expected: Span, actual: Span) -> Frame
+    ensures { λ r. ⌜ r ≡ apartBy f expected actual ⌝ }
 {
     let mut g = f;
     g.go = NOT_UNIFIED;
-    g.v = a;
-    g.ve = ae;
-    g.w = b;
-    g.we = be;
+    g.v = expected.from;
+    g.ve = expected.to;
+    g.w = actual.from;
+    g.we = actual.to;
     g
 }
 

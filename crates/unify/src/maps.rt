@@ -63,8 +63,8 @@ fn next_entry(work: &mut [u8], f: Frame, m: Merge, mark: usize) -> Frame
     pair_next(g, v, ve, w, we, mark + n)
 }
 
-// The frame of two maps.
-pub fn start_map(
+// Two maps: their frame. The entries that both have are unified one after the other, the others are kept.
+pub fn unify_maps(
     work: &mut [u8],
     arm: u8,
     a: usize,
@@ -108,7 +108,7 @@ pub fn step_map(work: &mut [u8], f: Frame, u: Unified, mark: usize) -> Frame
 {
     match u {
         Unified::Done(end) => after_value(work, f, end, mark),
-        Unified::Mismatch { a, ae, b, be } => apart(f, a, ae, b, be),
+        Unified::Mismatch { expected, actual } => apart(f, expected, actual),
         Unified::TooLarge => stop(f, LARGE),
     }
 }

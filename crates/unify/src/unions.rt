@@ -102,8 +102,8 @@ fn next_outer(work: &[u8], f: Frame, mark: usize) -> Frame
     pair_next(g, i, ty::type_end(work, i), o, oe, mark + f.n)
 }
 
-// The frame of two operands of which one is a union at least.
-pub fn start_union(
+// A union and another type, or two unions: their frame. The variants of a union are unified with the other one after the other.
+pub fn unify_union_with(
     work: &mut [u8],
     arm: u8,
     a: usize,
@@ -182,10 +182,8 @@ pub fn step_union(work: &mut [u8], f: Frame, u: Unified, mark: usize) -> Frame
     match u {
         Unified::Done(end) => join_answer(work, f, end, mark),
         Unified::Mismatch {
-            a: _,
-            ae: _,
-            b: _,
-            be: _,
+            expected: _,
+            actual: _,
         } => next_variant(work, f, mark),
         Unified::TooLarge => stop(f, LARGE),
     }

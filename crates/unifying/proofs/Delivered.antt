@@ -14,6 +14,7 @@ use Rattle.ty.specs.Parts.{TypeAt}
 use Rattle.unify_run.specs.Run.{Run, done, mismatch, large}
 use Rattle.unify.specs.Work.{Answered}
 use Rattle.unify.specs.declared.Unified.{Unified}
+use Rattle.unify.specs.declared.Span.{Span}
 use Rattle.unify.specs.declared.Unified.the-variants.{Done, Mismatch, TooLarge}
 use Rattle.unifying.specs.declared.Call.{Call}
 use Rattle.unifying.specs.Told.{ShortRun, SomeAnswer, Told, Tells}
@@ -71,30 +72,30 @@ module _ (s : Bytes) (mark : ℕ) (u : Unified) (out : Bytes) (p : SomeAnswer s 
     pub second : TypeAt s b be right
     pub short : (length (line left) ≤ typeLimit) × (length (line right) ≤ typeLimit)
 
-  pub two-lines : (a ae b be : ℕ) → u ≡ Mismatch a ae b be → TwoLines a ae b be
-  two-lines a ae b be eq = go (p .run) (subst (λ (v : Unified). Answered (p .run) s mark v) eq (p .answered)) (p .short)
+  pub two-lines : (i j : Span) → u ≡ Mismatch i j → TwoLines (i .from) (i .to) (j .from) (j .to)
+  two-lines i j eq = go (p .run) (subst (λ (v : Unified). Answered (p .run) s mark v) eq (p .answered)) (p .short)
     where
-      go : (R : Run) → Answered R s mark (Mismatch a ae b be) → ShortRun R → TwoLines a ae b be
+      go : (R : Run) → Answered R s mark (Mismatch i j) → ShortRun R → TwoLines (i .from) (i .to) (j .from) (j .to)
       go (done t) x h = absurd x
       go (mismatch v w) x h = record { left = v; right = w; first = x .0 .at; second = x .1 .at; short = h }
       go large x h = absurd x
 
-  pub two-fit : (a ae b be n : ℕ) → u ≡ Mismatch a ae b be → n ≡ 0 + length (take (ae - a) (drop a s)) → n + length (take (be - b) (drop b s)) < 18446744073709551616
-  two-fit a ae b be n eq en =
-      let l = two-lines a ae b be eq in
-      omega (arith, ap length (part-line s a ae (l .left) (l .first)), ap length (part-line s b be (l .right) (l .second)), l .short .0, l .short .1)
+  pub two-fit : (i j : Span) (n : ℕ) → u ≡ Mismatch i j → n ≡ 0 + length (take (i .to - i .from) (drop (i .from) s)) → n + length (take (j .to - j .from) (drop (j .from) s)) < 18446744073709551616
+  two-fit i j n eq en =
+      let l = two-lines i j eq in
+      omega (arith, ap length (part-line s (i .from) (i .to) (l .left) (l .first)), ap length (part-line s (j .from) (j .to) (l .right) (l .second)), l .short .0, l .short .1)
 
-  pub tells-apart : (a ae b be n m : ℕ) (out₁ out′ : Bytes) → u ≡ Mismatch a ae b be
-      → n ≡ 0 + length (take (ae - a) (drop a s)) → out₁ ≡ sets out 0 (take (ae - a) (drop a s))
-      → m ≡ n + length (take (be - b) (drop b s)) → out′ ≡ sets out₁ n (take (be - b) (drop b s))
+  pub tells-apart : (i j : Span) (n m : ℕ) (out₁ out′ : Bytes) → u ≡ Mismatch i j
+      → n ≡ 0 + length (take (i .to - i .from) (drop (i .from) s)) → out₁ ≡ sets out 0 (take (i .to - i .from) (drop (i .from) s))
+      → m ≡ n + length (take (j .to - j .from) (drop (j .from) s)) → out′ ≡ sets out₁ n (take (j .to - j .from) (drop (j .from) s))
       → Tells s mark u out out′ (record { number = 9; first = n; second = m - n })
-  tells-apart a ae b be n m out₁ out′ eq en e₁ em e₂ R x h = go R (subst (λ (v : Unified). Answered R s mark v) eq x) h
+  tells-apart i j n m out₁ out′ eq en e₁ em e₂ R x h = go R (subst (λ (v : Unified). Answered R s mark v) eq x) h
     where
-      go : (R : Run) → Answered R s mark (Mismatch a ae b be) → ShortRun R → Told R out out′ (record { number = 9; first = n; second = m - n })
+      go : (R : Run) → Answered R s mark (Mismatch i j) → ShortRun R → Told R out out′ (record { number = 9; first = n; second = m - n })
       go (done t) x h = absurd x
       go (mismatch v w) x h =
-          let lv : take (ae - a) (drop a s) ≡ line v = part-line s a ae v (x .0 .at) in
-          let lw : take (be - b) (drop b s) ≡ line w = part-line s b be w (x .1 .at) in
+          let lv : take (i .to - i .from) (drop (i .from) s) ≡ line v = part-line s (i .from) (i .to) v (x .0 .at) in
+          let lw : take (j .to - j .from) (drop (j .from) s) ≡ line w = part-line s (j .from) (j .to) w (x .1 .at) in
           let kn : n ≡ length (line v) = en ∙ omega (arith, ap length lv) in
           let km : m - n ≡ length (line w) = omega (arith, em, ap length lw) in
           let k0 : n ≡ 0 + length (line v) = omega (arith, kn) in
@@ -107,7 +108,7 @@ module _ (s : Bytes) (mark : ℕ) (u : Unified) (out : Bytes) (p : SomeAnswer s 
           }
         where
           both : ℕ → ℕ → Call
-          both i j = record { number = 9; first = i; second = j }
+          both k l = record { number = 9; first = k; second = l }
       go large x h = absurd x
 
   pub tells-large : u ≡ TooLarge → Tells s mark u out out (record { number = 6; first = 0; second = 0 })

@@ -28,9 +28,13 @@ fn deliver(work: &[u8], mark: usize, u: Unified, out: &mut [u8]) -> Call
                 second: 0,
             }
         }
-        Unified::Mismatch { a, ae, b, be } => {
-            let n = text::append(out, 0, &work[a..ae]);
-            let m = text::append(out, n, &work[b..be]);
+        Unified::Mismatch { expected, actual } => {
+            let left = expected.from;
+            let left_end = expected.to;
+            let n = text::append(out, 0, &work[left..left_end]);
+            let right = actual.from;
+            let right_end = actual.to;
+            let m = text::append(out, n, &work[right..right_end]);
             Call {
                 number: semantics::MISMATCH,
                 first: n as u64,

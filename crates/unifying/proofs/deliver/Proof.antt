@@ -23,31 +23,31 @@ enum-known-u-2 : tie.Need-enum-known-u-2
 enum-known-u-2 c = search needs
 
 sub-append-2 : tie.Need-sub-append-2
-sub-append-2 c = (two-lines _ _ _ _ (c .before .before .before .before .before .before .pre) _ _ _ _ (c .before .before .u2 .given .1)) .first .ordered
+sub-append-2 c = (two-lines _ _ _ _ (c .before .before .before .before .before .before .pre) _ _ (c .before .before .u2 .given .1)) .first .ordered
 
 part-append-start-2 : tie.Need-part-append-start-2
-part-append-start-2 c = (two-lines _ _ _ _ (c .before .before .before .before .before .before .pre) _ _ _ _ (c .before .before .u2 .given .1)) .first .ordered
+part-append-start-2 c = (two-lines _ _ _ _ (c .before .before .before .before .before .before .pre) _ _ (c .before .before .u2 .given .1)) .first .ordered
 
 part-append-end-2 : tie.Need-part-append-end-2
-part-append-end-2 c = (two-lines _ _ _ _ (c .before .before .before .before .before .before .pre) _ _ _ _ (c .before .before .u2 .given .1)) .first .inside
+part-append-end-2 c = (two-lines _ _ _ _ (c .before .before .before .before .before .before .pre) _ _ (c .before .before .u2 .given .1)) .first .inside
 
 append-requires-2 : tie.Need-append-requires-2
 append-requires-2 c κs = search needs
 
 sub-append-3 : tie.Need-sub-append-3
-sub-append-3 c = (two-lines _ _ _ _ (c .before .before .before .before .before .before .before .before .before .before .before .pre) _ _ _ _ (c .before .before .before .before .before .before .before .u2 .given .1)) .second .ordered
+sub-append-3 c = (two-lines _ _ _ _ (c .before .before .before .before .before .before .before .before .before .before .before .pre) _ _ (c .before .before .before .before .before .before .before .u2 .given .1)) .second .ordered
 
 part-append-start-3 : tie.Need-part-append-start-3
-part-append-start-3 c = (two-lines _ _ _ _ (c .before .before .before .before .before .before .before .before .before .before .before .pre) _ _ _ _ (c .before .before .before .before .before .before .before .u2 .given .1)) .second .ordered
+part-append-start-3 c = (two-lines _ _ _ _ (c .before .before .before .before .before .before .before .before .before .before .before .pre) _ _ (c .before .before .before .before .before .before .before .u2 .given .1)) .second .ordered
 
 part-append-end-3 : tie.Need-part-append-end-3
-part-append-end-3 c = (two-lines _ _ _ _ (c .before .before .before .before .before .before .before .before .before .before .before .pre) _ _ _ _ (c .before .before .before .before .before .before .before .u2 .given .1)) .second .inside
+part-append-end-3 c = (two-lines _ _ _ _ (c .before .before .before .before .before .before .before .before .before .before .before .pre) _ _ (c .before .before .before .before .before .before .before .u2 .given .1)) .second .inside
 
 append-requires-3 : tie.Need-append-requires-3
-append-requires-3 c κs = two-fit _ _ _ _ (c .before .before .before .before .before .before .before .before .before .before .before .before .pre) _ _ _ _ _ (c .before .before .before .before .before .before .before .before .u2 .given .1) (c .before .before .before .before .append2 .ensures .0)
+append-requires-3 c κs = two-fit _ _ _ _ (c .before .before .before .before .before .before .before .before .before .before .before .before .pre) _ _ _ (c .before .before .before .before .before .before .before .before .u2 .given .1) (c .before .before .before .before .append2 .ensures .0)
 
-sub-t24 : tie.Need-sub-t24
-sub-t24 c = search needs
+sub-t26 : tie.Need-sub-t26
+sub-t26 c = search needs
 
 enum-told : tie.Need-enum-told
 enum-told c = search needs
@@ -62,7 +62,7 @@ same-length-2 : tie.Need-same-length-2
 same-length-2 c = search needs
 
 returns-2 : tie.Need-returns-2
-returns-2 c = tells-apart _ _ _ _ (c .before .before .before .before .before .before .before .before .before .before .before .before .before .before .before .pre) _ _ _ _ _ _ _ _ (c .before .before .before .before .before .before .before .before .before .before .before .u2 .given .1) (c .before .before .before .before .before .before .before .append2 .ensures .0) (c .before .before .before .before .before .before .before .append2 .ensures .1) (c .before .before .append3 .ensures .0) (c .before .before .append3 .ensures .1)
+returns-2 c = tells-apart _ _ _ _ (c .before .before .before .before .before .before .before .before .before .before .before .before .before .before .before .pre) _ _ _ _ _ _ (c .before .before .before .before .before .before .before .before .before .before .before .u2 .given .1) (c .before .before .before .before .before .before .before .append2 .ensures .0) (c .before .before .before .before .before .before .before .append2 .ensures .1) (c .before .before .append3 .ensures .0) (c .before .before .append3 .ensures .1)
 
 returns-3 : tie.Need-returns-3
 returns-3 c = tells-large _ _ _ _ (c .before .before .before .before .pre) (c .enum-told .given .1)
@@ -85,7 +85,7 @@ deliver-spec =
     part-append-start-3
     part-append-end-3
     append-requires-3
-    sub-t24
+    sub-t26
     enum-told
     same-length
     returns

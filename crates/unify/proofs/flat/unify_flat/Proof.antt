@@ -16,11 +16,11 @@ slice-aggregate-fixed c = search needs
 fixed-requires : tie.Need-fixed-requires
 fixed-requires c κs = search needs
 
-nullable-requires : tie.Need-nullable-requires
-nullable-requires c κs = second-operand (c .before .before .before .pre)
+unify-null-requires : tie.Need-unify-null-requires
+unify-null-requires c κs = second-operand (c .before .before .before .pre)
 
-nullable-requires-2 : tie.Need-nullable-requires-2
-nullable-requires-2 c κs = first-operand (c .before .before .before .pre)
+unify-null-requires-2 : tie.Need-unify-null-requires-2
+unify-null-requires-2 c κs = first-operand (c .before .before .before .pre)
 
 slice-aggregate-fixed-2 : tie.Need-slice-aggregate-fixed-2
 slice-aggregate-fixed-2 c = search needs
@@ -59,13 +59,13 @@ same-length-4 : tie.Need-same-length-4
 same-length-4 c = search needs
 
 returns-4 : tie.Need-returns-4
-returns-4 c = flat-null-first (c .before .before .before .before .match .keys4) (c .before .before .nullable .ensures)
+returns-4 c = flat-null-first (c .before .before .before .before .match .keys4) (c .before .before .unify-null .ensures)
 
 same-length-5 : tie.Need-same-length-5
 same-length-5 c = search needs
 
 returns-5 : tie.Need-returns-5
-returns-5 c = flat-null-second (c .before .before .before .before .match .keys5) (c .before .before .nullable2 .ensures)
+returns-5 c = flat-null-second (c .before .before .before .before .match .keys5) (c .before .before .unify-null2 .ensures)
 
 same-length-6 : tie.Need-same-length-6
 same-length-6 c = search needs
@@ -96,8 +96,8 @@ unify-flat-spec =
     copied-requires-2
     slice-aggregate-fixed
     fixed-requires
-    nullable-requires
-    nullable-requires-2
+    unify-null-requires
+    unify-null-requires-2
     slice-aggregate-fixed-2
     fixed-requires-2
     unify-label-sets-requires

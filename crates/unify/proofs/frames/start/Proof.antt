@@ -7,11 +7,11 @@ use Rattle.unify.proofs.frames.start.Tie as tie
 start-list-requires : tie.Need-start-list-requires
 start-list-requires c κs = search needs
 
-start-map-requires : tie.Need-start-map-requires
-start-map-requires c κs = search needs
+unify-maps-requires : tie.Need-unify-maps-requires
+unify-maps-requires c κs = search needs
 
-start-union-requires : tie.Need-start-union-requires
-start-union-requires c κs = let p = c .before .before .before .pre in let m = c .before .match .rest in let h = union-arm _ (p .1) (m .0 .1) (m .1) in (p .0, h .0, h .1)
+unify-union-with-requires : tie.Need-unify-union-with-requires
+unify-union-with-requires c κs = let p = c .before .before .before .pre in let m = c .before .match .rest in let h = union-arm _ (p .1) (m .0 .1) (m .1) in (p .0, h .0, h .1)
 
 same-length : tie.Need-same-length
 same-length c = search needs
@@ -36,8 +36,8 @@ start-spec =
     tie.close
     (tie.spec
     start-list-requires
-    start-map-requires
-    start-union-requires
+    unify-maps-requires
+    unify-union-with-requires
     same-length
     returns
     same-length-2

@@ -29,7 +29,7 @@ returns : tie.Need-returns
 returns c = list-done _ _ (c .before .before .before .before .before .pre .1) (c .before .before .u .given .1) _ (c .stop .ensures)
 
 returns-2 : tie.Need-returns-2
-returns-2 c = list-apart _ _ _ _ _ (c .before .before .before .before .before .pre .1) (c .before .before .u2 .given .1) _ (c .apart .ensures)
+returns-2 c = list-apart _ _ _ (c .before .before .before .before .before .pre .1) (c .before .before .u2 .given .1) _ (c .apart .ensures)
 
 returns-3 : tie.Need-returns-3
 returns-3 c = list-large _ (c .before .before .before .before .pre .1) (c .before .enum-told .given .1) _ (c .stop2 .ensures)

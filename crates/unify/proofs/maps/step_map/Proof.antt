@@ -36,7 +36,7 @@ returns : tie.Need-returns
 returns c = let st = c .before .before .before .before .before .before .before .before in let a = st .args in done-stepped (a .work .now) (a .mark) (a .f) (st .pre .1) _ (a .u) _ _ (c .before .before .before .before .before .u .given .1) (c .before .before .after-value .ensures)
 
 returns-2 : tie.Need-returns-2
-returns-2 c = let st = c .before .before .before .before .before in let a = st .args in apart-stepped (a .work .now) (a .mark) (a .f) (st .pre .1) (a .u) _ _ _ _ _ (c .before .before .u2 .given .1) (c .apart .ensures)
+returns-2 c = let st = c .before .before .before .before .before in let a = st .args in apart-stepped (a .work .now) (a .mark) (a .f) (st .pre .1) (a .u) _ _ _ (c .before .before .u2 .given .1) (c .apart .ensures)
 
 returns-3 : tie.Need-returns-3
 returns-3 c = let st = c .before .before .before .before in let a = st .args in large-stepped (a .work .now) (a .mark) (a .f) (st .pre .1) (a .u) _ (c .before .enum-told .given .1) (c .stop .ensures)

@@ -4,10 +4,10 @@ use mathlib.Core.Logic.{inr}
 use mathlib.Core.Path.{ap}
 use native.Mathlib.Omega.{arith}
 use borrow.Author.Needs.{needs}
-use Rattle.unify.proofs.maps.start_map.Statement.{statement}
-use Rattle.unify.proofs.maps.start_map.Tie as tie
-use Rattle.unify.proofs.maps.start_map.Reads as reads
-use Rattle.unify.proofs.maps.start_map.Lts as lts
+use Rattle.unify.proofs.maps.unify_maps.Statement.{statement}
+use Rattle.unify.proofs.maps.unify_maps.Tie as tie
+use Rattle.unify.proofs.maps.unify_maps.Reads as reads
+use Rattle.unify.proofs.maps.unify_maps.Lts as lts
 use Rattle.text.proofs.copy_in.Reads as copy-in-reads
 use Rattle.unify.proofs.made.empty_frame.Reads as empty-frame-reads
 use Rattle.unify.proofs.maps.keep_lone.Reads as keep-lone-reads
@@ -37,8 +37,8 @@ same-length c = search needs
 returns : tie.Need-returns
 returns c = let st = c .before .before .before .before .before .before .before .before .before .before .before .before .before .before in let a = st .args in started (a .work .now) _ (a .arm) (a .a) (a .ae) (a .b) (a .be) (a .mark) (st .pre .0) (st .pre .1) (c .before .before .before .before .before .before .before .before .before .before .before .copy-in .ensures) _ _ _ _ _ (c .before .before .before .before .before .before .before .keep-lone .ensures) (c .before .before .next-entry .ensures)
 
-pub start-map-spec : {M : Type 1} → statement M
-start-map-spec =
+pub unify-maps-spec : {M : Type 1} → statement M
+unify-maps-spec =
     tie.close
     (tie.spec
     copy-in-requires

@@ -1,8 +1,8 @@
--- `unify::unions::start_union` meets its contract. Assumes nothing.
+-- `unify::unions::unify_union_with` meets its contract. Assumes nothing.
 use borrow.Author.Needs.{needs}
 use Rattle.unify.proofs.UnionSteps.{start-bounds, start-outers, start-comes}
-use Rattle.unify.proofs.unions.start_union.Statement.{statement}
-use Rattle.unify.proofs.unions.start_union.Tie as tie
+use Rattle.unify.proofs.unions.unify_union_with.Statement.{statement}
+use Rattle.unify.proofs.unions.unify_union_with.Tie as tie
 
 sides-requires : tie.Need-sides-requires
 sides-requires c κs = let h = start-bounds (c .before .pre .0) in (h .0, h .1, c .before .pre .1, c .before .pre .2)
@@ -19,7 +19,7 @@ same-length c = search needs
 returns : tie.Need-returns
 returns c = start-comes (c .before .before .before .sides .ensures) (c .before .before .before .before .before .pre .0) (c .before .before .before .before .before .pre .1) (c .before .before .before .before .before .pre .2) (c .before .before .empty-frame .ensures) (c .next-outer .ensures)
 
-pub start-union-spec : {M : Type 1} → statement M
-start-union-spec =
+pub unify-union-with-spec : {M : Type 1} → statement M
+unify-union-with-spec =
     tie.close
     (tie.spec sides-requires empty-frame-requires next-outer-requires same-length returns)

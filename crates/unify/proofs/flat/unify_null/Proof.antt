@@ -1,8 +1,8 @@
--- `unify::flat::nullable` meets its contract. Assumes nothing.
+-- `unify::flat::unify_null` meets its contract. Assumes nothing.
 use borrow.Author.Needs.{needs}
 use Rattle.unify.proofs.NullLaws.{opened-null, plain-null, opened-nullable, plain-nullable}
-use Rattle.unify.proofs.flat.nullable.Statement.{statement}
-use Rattle.unify.proofs.flat.nullable.Tie as tie
+use Rattle.unify.proofs.flat.unify_null.Statement.{statement}
+use Rattle.unify.proofs.flat.unify_null.Tie as tie
 
 slice-read-if1 : tie.Need-slice-read-if1
 slice-read-if1 c = search needs
@@ -37,8 +37,8 @@ same-length-2 c = search needs
 returns-2 : tie.Need-returns-2
 returns-2 c = plain-nullable (c .before .before .before .before .if1 .left) (c .before .before .with-null2 .ensures)
 
-pub nullable-spec : {M : Type 1} → statement M
-nullable-spec =
+pub unify-null-spec : {M : Type 1} → statement M
+unify-null-spec =
     tie.close
     (tie.spec
     slice-read-if1
