@@ -4,6 +4,7 @@ use mathlib.Core.List.{List, [], _∷_}
 use mathlib.Core.Bool.{false}
 use Prim.Native.Nat.{ℕ, suc, _+_, _-_, _*_, _≤_}
 use lib.ListN.{length, take}
+use Rattle.semantics.specs.Limits.{typeLimit}
 use Rattle.semantics.specs.All.{All}
 use Rattle.semantics.specs.Regular.{Regular}
 use Rattle.semantics.specs.Ty.{Ty, tooLarge}
@@ -17,7 +18,7 @@ use Rattle.bounds.specs.Sizes.{sizes}
 
 -- the most bytes that a type may have
 abbrev pub slot : ℕ
-slot = 1024
+slot = typeLimit
 
 pub record Bounds : Type 0 where
   -- the fault lines of a tree of k lines have less than k slots

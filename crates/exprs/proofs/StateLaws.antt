@@ -4,16 +4,18 @@ use mathlib.Core.List.{[], _∷_, _++_}
 use mathlib.Core.Option.{none, some}
 use Prim.Native.Nat.{ℕ, _+_, _≤_, _<_}
 use native.Mathlib.Omega.{arith}
-use lib.ListN.{length, take, set, length-append}
-use lib.Seq.{slice, take-take}
+use lib.ListN.{length, take, drop, length-append}
+use lib.Seq.{slice, take-take, take-at, length-sets}
+use Rattle.semantics.specs.Limits.{typeLimit}
 use Rattle.semantics.specs.Bytes.{Bytes}
 use Rattle.semantics.specs.Ty.{Ty, tList, ∅ᶠ, line, lineTo}
-use Rattle.text.proofs.Laws.{take-join}
+use Rattle.text.proofs.Laws.{take-join, sets-parts}
 use Rattle.ty.specs.Parts.{linesOf, TypeAt}
 use Rattle.ty.proofs.UnionEnds.{type-long}
 use Rattle.unify_run.proofs.Size.{line-two}
 use Rattle.walk_run.specs.Run.{Kept, empty, over, kept, both, items, last, entries, arms, keepFirst, keepTwo}
 use Rattle.exprs.specs.State.{textOf, place, behind, full, StAs, ChildAt, LastChild, FirstForm}
+use Rattle.exprs.specs.End.{Puts}
 use Rattle.exprs.specs.Rules.{TwoKept}
 use Rattle.exprs.specs.declared.state.Accumulator.{Accumulator}
 
@@ -52,25 +54,28 @@ pub arms-is : {r : Accumulator} → Is r 0 0 → (s : Bytes) → StAs (arms []) 
 unfolding textOf place behind full linesOf
 arms-is h s = record { len = h .0; second = h .1; over = h .2; front = refl }
 
-pub two-set : (s : Bytes) → 2 ≤ length s → take 2 (set (set s 0 74) 1 44) ≡ 74 ∷ 44 ∷ []
-two-set [] h = absurd (omega arith)
-two-set (a ∷ []) h = absurd (omega arith)
-two-set (a ∷ b ∷ s) h = refl
-
 pub list-is : {r : Accumulator} → Is r 2 0 → (s : Bytes) → take 2 s ≡ 74 ∷ 44 ∷ [] → StAs (items none) s r × StAs (last none) s r
 unfolding textOf place behind full
 list-is h s f = (record { len = h .0; second = h .1; over = h .2; front = f }, record { len = h .0; second = h .1; over = h .2; front = f })
 
-pub four-set : (s : Bytes) → 4 ≤ length s → take 4 (set (set (set (set s 0 75) 1 44) 2 33) 3 44) ≡ 75 ∷ 44 ∷ 33 ∷ 44 ∷ []
-four-set [] h = absurd (omega arith)
-four-set (a ∷ []) h = absurd (omega arith)
-four-set (a ∷ b ∷ []) h = absurd (omega arith)
-four-set (a ∷ b ∷ c ∷ []) h = absurd (omega arith)
-four-set (a ∷ b ∷ c ∷ d ∷ s) h = refl
-
 pub map-is : {r : Accumulator} → Is r 4 0 → (s : Bytes) → take 4 s ≡ 75 ∷ 44 ∷ 33 ∷ 44 ∷ [] → StAs (entries ∅ᶠ) s r
 unfolding textOf place behind full line lineTo
 map-is h s f = record { len = h .0; second = h .1; over = h .2; front = f }
+
+-- what is put to the front stands there
+put-front : {x s s′ : Bytes} {k : ℕ} → length x ≤ length s → Puts x s s′ k → take (length x) s′ ≡ x
+put-front {x} {s} h p = ap (take (length x)) (p .text ∙ sets-parts s 0 x h) ∙ take-at x (drop (0 + length x) s) (length x) refl
+
+put-long : {x s s′ : Bytes} {k : ℕ} → Puts x s s′ k → length s′ ≡ length s
+put-long {x} {s} p = ap length (p .text) ∙ length-sets s 0 x
+
+pub list-put : {s s′ : Bytes} {k : ℕ} {r : Accumulator} → typeLimit ≤ length s → Puts (74 ∷ 44 ∷ []) s s′ k → Is r k 0
+    → StAs (items none) s′ r × StAs (last none) s′ r × (length s′ ≡ length s)
+list-put {s′ = s′} h p i = let l = list-is (i .0 ∙ p .end, i .1, i .2) s′ (put-front (omega arith) p) in (l .0, l .1, put-long p)
+
+pub map-put : {s s′ : Bytes} {k : ℕ} {r : Accumulator} → typeLimit ≤ length s → Puts (75 ∷ 44 ∷ 33 ∷ 44 ∷ []) s s′ k → Is r k 0
+    → StAs (entries ∅ᶠ) s′ r × (length s′ ≡ length s)
+map-put {s′ = s′} h p i = (map-is (i .0 ∙ p .end, i .1, i .2) s′ (put-front (omega arith) p), put-long p)
 
 -- ## `keep_first`, `keep_second`, `keep_last`
 

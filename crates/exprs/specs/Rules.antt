@@ -5,6 +5,7 @@ use mathlib.Core.Bool.{cond}
 use Prim.Native.Nat.{ℕ}
 use lib.Dec.{eqb}
 use lib.ListN.{length}
+use Rattle.semantics.specs.Codes.{comma}
 use Rattle.semantics.specs.Bytes.{Bytes}
 use Rattle.semantics.specs.Ty.{Ty, line}
 use Rattle.semantics.specs.Sheet.{Word, Role, plain, condition, answer, inner, Typing, constant, varType, element, slice as slicing, listing, mapping, calling, operator, unary, casing, membership, comprehension, Rule, silent, entering, typed, row, low, high, present, armRoles}
@@ -58,7 +59,7 @@ pub record AnswerKept (i : ℕ) (s s′ : Bytes) (st : Accumulator) (n : ℕ) (r
 
 -- a constant of one letter
 abbrev pub LetterBy : ℕ → ℕ → Type 0
-LetterBy w r = (v : Word) (t : Ty) → w ≡ wordNo v → row v .rule ≡ typed (constant t) → (w ≡ 51 → ⊥) → r ∷ 44 ∷ [] ≡ line t
+LetterBy w r = (v : Word) (t : Ty) → w ≡ wordNo v → row v .rule ≡ typed (constant t) → (w ≡ 51 → ⊥) → r ∷ comma ∷ [] ≡ line t
 
 abbrev pub ConstantBy : ℕ → Bytes → Bytes → ℕ → Type 0
 ConstantBy w s s′ r = (v : Word) (t : Ty) → w ≡ wordNo v → row v .rule ≡ typed (constant t) → Returned s s′ t r

@@ -4,6 +4,7 @@ ghost use mathlib.Core.List.{[], _∷_};
 ghost use mathlib.Core.Option.{none, some};
 ghost use Prim.Native.Nat.{_≤_};
 ghost use lib.ListN.{getD, length};
+ghost use Rattle.semantics.specs.Limits.{typeLimit};
 ghost use Rattle.semantics.specs.Bytes.{Bytes};
 ghost use Rattle.semantics.specs.Ty.{Ty};
 ghost use Rattle.semantics.specs.Sheet.{Role, plain, condition, present};
@@ -21,7 +22,7 @@ use report::Tally;
 
 // `J,`, as for a list.
 pub fn start_comprehension(work: &mut [u8]) -> Accumulator
-    requires { ⌜ 1024 ≤ length (now work) ⌝ }
+    requires { ⌜ typeLimit ≤ length (now work) ⌝ }
     ensures { λ r. ⌜ StAs (last none) (now (work .exit)) r × (length (now (work .exit)) ≡ length (now (work .entry))) ⌝ }
 {
     start_list(work)

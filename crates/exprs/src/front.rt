@@ -2,6 +2,8 @@
 ghost use mathlib.Core.List.{[], _∷_};
 ghost use Prim.Native.Nat.{_≤_};
 ghost use lib.ListN.{length};
+ghost use Rattle.semantics.specs.Limits.{typeLimit};
+ghost use Rattle.semantics.specs.Codes.{comma};
 ghost use Rattle.semantics.specs.Ty.{tBool, base};
 ghost use Rattle.exprs.specs.End.{Puts, Settles};
 use crate::state::Ended;
@@ -11,8 +13,8 @@ use ty::BOOL;
 
 // A type of one letter at the front.
 pub fn put_letter(work: &mut [u8], a: u8) -> usize
-    requires { ⌜ 1024 ≤ length (now work) ⌝ }
-    ensures { λ r. ⌜ Puts (a ∷ 44 ∷ []) (now (work .entry)) (now (work .exit)) r ⌝ }
+    requires { ⌜ typeLimit ≤ length (now work) ⌝ }
+    ensures { λ r. ⌜ Puts (a ∷ comma ∷ []) (now (work .entry)) (now (work .exit)) r ⌝ }
 {
     work[0] = a;
     work[1] = COMMA;
@@ -21,8 +23,8 @@ pub fn put_letter(work: &mut [u8], a: u8) -> usize
 
 // A type of two fields at the front, or two types of one letter each.
 pub fn put_pair(work: &mut [u8], a: u8, b: u8) -> usize
-    requires { ⌜ 1024 ≤ length (now work) ⌝ }
-    ensures { λ r. ⌜ Puts (a ∷ 44 ∷ b ∷ 44 ∷ []) (now (work .entry)) (now (work .exit)) r ⌝ }
+    requires { ⌜ typeLimit ≤ length (now work) ⌝ }
+    ensures { λ r. ⌜ Puts (a ∷ comma ∷ b ∷ comma ∷ []) (now (work .entry)) (now (work .exit)) r ⌝ }
 {
     work[0] = a;
     work[1] = COMMA;
@@ -33,7 +35,7 @@ pub fn put_pair(work: &mut [u8], a: u8, b: u8) -> usize
 
 // Bool at the front.
 pub fn is_bool(work: &mut [u8], tally: Tally) -> Ended
-    requires { ⌜ 1024 ≤ length (now work) ⌝ }
+    requires { ⌜ typeLimit ≤ length (now work) ⌝ }
     ensures { λ r. ⌜ Settles (base tBool) (now (work .entry)) (now (work .exit)) tally r ⌝ }
 {
     Ended::Typed {

@@ -1,6 +1,7 @@
 // Expressions whose type is fixed by the word: constants, parameters, properties, tests.
 ghost use Prim.Native.Nat.{_≤_};
 ghost use lib.ListN.{length};
+ghost use Rattle.semantics.specs.Limits.{typeLimit};
 ghost use Rattle.exprs.specs.Rules.{LetterBy, ConstantBy};
 use crate::front::put_letter;
 use crate::front::put_pair;
@@ -42,7 +43,7 @@ fn letter_of(word: usize) -> u8
 
 // The type of a constant.
 pub fn constant(word: usize, work: &mut [u8]) -> usize
-    requires { ⌜ 1024 ≤ length (now work) ⌝ }
+    requires { ⌜ typeLimit ≤ length (now work) ⌝ }
     ensures { λ r. ⌜ ConstantBy word (now (work .entry)) (now (work .exit)) r ⌝ }
 {
     if word == line::MPR {

@@ -4,11 +4,13 @@ ghost use mathlib.Core.Option.{Option, none, some};
 ghost use mathlib.Core.List.{[]};
 ghost use Prim.Native.Nat.{_≤_};
 ghost use lib.ListN.{length};
+ghost use Rattle.semantics.specs.Limits.{typeLimit};
 ghost use Rattle.semantics.specs.Ty.{Ty, tAny, base};
 ghost use Rattle.ty.specs.Parts.{TypeAt};
 ghost use Rattle.walk_run.specs.Run.{items, last, told, endList};
 ghost use Rattle.exprs.specs.State.{StAs, Keeps, SomeList, ListKept, Headed, SomeItem, ItemKept};
 ghost use Rattle.exprs.specs.End.{KeptAt, SomeItems};
+use crate::front::put_letter;
 use crate::front::put_pair;
 use crate::state::Accumulator;
 use crate::state::Keep;
@@ -20,12 +22,10 @@ use unify::Unified;
 
 // `J,` for a list and for a comprehension.
 pub fn start_list(work: &mut [u8]) -> Accumulator
-    requires { ⌜ 1024 ≤ length (now work) ⌝ }
+    requires { ⌜ typeLimit ≤ length (now work) ⌝ }
     ensures { λ r. ⌜ StAs (items none) (now (work .exit)) r × StAs (last none) (now (work .exit)) r × (length (now (work .exit)) ≡ length (now (work .entry))) ⌝ }
 {
-    work[0] = LIST;
-    work[1] = COMMA;
-    state(2, 0)
+    state(put_letter(work, LIST), 0)
 }
 
 // A list of `len` bytes at the front, tested.

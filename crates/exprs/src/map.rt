@@ -2,27 +2,24 @@
 ghost use mathlib.Core.Path.{_≡_};
 ghost use Prim.Native.Nat.{_≤_};
 ghost use lib.ListN.{length};
+ghost use Rattle.semantics.specs.Limits.{typeLimit};
 ghost use Rattle.semantics.specs.Ty.{∅ᶠ};
 ghost use Rattle.walk_run.specs.Run.{entries};
 ghost use Rattle.exprs.specs.State.{StAs, SomeEntry, EntryKept};
+use crate::front::put_pair;
 use crate::state::Accumulator;
 use crate::state::Keep;
 use crate::state::state;
-use text::COMMA;
 use ty::CLOSE;
 use ty::Grown;
 use ty::MAP;
 
 // The map with no entries.
 pub fn start_map(work: &mut [u8]) -> Accumulator
-    requires { ⌜ 1024 ≤ length (now work) ⌝ }
+    requires { ⌜ typeLimit ≤ length (now work) ⌝ }
     ensures { λ r. ⌜ StAs (entries ∅ᶠ) (now (work .exit)) r × (length (now (work .exit)) ≡ length (now (work .entry))) ⌝ }
 {
-    work[0] = MAP;
-    work[1] = COMMA;
-    work[2] = CLOSE;
-    work[3] = COMMA;
-    state(4, 0)
+    state(put_pair(work, MAP, CLOSE), 0)
 }
 
 // An entry of a map, its name in hexadecimal digits.

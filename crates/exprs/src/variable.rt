@@ -2,6 +2,7 @@
 ghost use mathlib.Core.Path.{_≡_};
 ghost use Prim.Native.Nat.{_≤_};
 ghost use lib.ListN.{length};
+ghost use Rattle.semantics.specs.Limits.{typeLimit};
 ghost use Rattle.semantics.specs.Walk.{kindType};
 ghost use Rattle.ty.specs.Parts.{TypeAt};
 ghost use Rattle.hir.specs.Bind.{BindsAt, kindOf};
@@ -23,7 +24,7 @@ const PATH_KIND: u64 = 2;
 
 // The type by the kind of the binding.
 fn kind_type(kind: u64, work: &mut [u8]) -> usize
-    requires { ⌜ 1024 ≤ length (now work) ⌝ }
+    requires { ⌜ typeLimit ≤ length (now work) ⌝ }
     ensures { λ r. ⌜ TypeAt (now (work .exit)) 0 r (kindType kind) × (length (now (work .exit)) ≡ length (now (work .entry))) ⌝ }
 {
     match kind {
@@ -36,7 +37,7 @@ fn kind_type(kind: u64, work: &mut [u8]) -> usize
 
 // The type of a variable, which the `b` lines from `from` to `to` bind, or none of them.
 pub fn var_type(sheet: &[u8], from: usize, to: usize, var: VarId, work: &mut [u8]) -> usize
-    requires { ⌜ BindsAt (now sheet) from to × (1024 ≤ length (now work)) ⌝ }
+    requires { ⌜ BindsAt (now sheet) from to × (typeLimit ≤ length (now work)) ⌝ }
     ensures { λ r. ⌜ ((b : BindsAt (now (sheet .entry)) from to) → TypeAt (now (work .exit)) 0 r (kindType (kindOf (var .0) (b .heads)))) × (length (now (work .exit)) ≡ length (now (work .entry))) ⌝ }
 {
     kind_type(hir::bind_kind(sheet, from, to, var), work)

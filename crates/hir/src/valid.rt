@@ -3,6 +3,7 @@ ghost use mathlib.Core.Path.{_≡_};
 ghost use Prim.Native.Nat.{ℕ, _+_, _-_, _≤_, _<_, _/_};
 ghost use lib.Dec.{eqb, ltb};
 ghost use lib.ListN.{length, getD, drop};
+ghost use Rattle.semantics.specs.Codes.{lineFeed, expressionRank};
 ghost use Rattle.semantics.specs.Bytes.{split};
 ghost use Rattle.line.specs.Arrays.{classes, groups, seconds};
 ghost use Rattle.hir.specs.Run.{run};
@@ -97,8 +98,8 @@ fn verdict(h: Head, class: usize, depth: usize) -> u32
 
 // The depth left below a line of a class.
 fn below(class: usize, depth: usize) -> usize
-    requires { ⌜ (class ≡ 13 → 0 < depth) ⌝ }
-    ensures { λ r. ⌜ r ≡ pickC (eqb class 13) (depth - 1) depth ⌝ }
+    requires { ⌜ (class ≡ expressionRank → 0 < depth) ⌝ }
+    ensures { λ r. ⌜ r ≡ pickC (eqb class expressionRank) (depth - 1) depth ⌝ }
 {
     if class == line::AT_EXPRESSION {
         depth - 1
@@ -110,7 +111,7 @@ fn below(class: usize, depth: usize) -> usize
 // The lines below this one, and all below those, from its next line on.
 pub fn check_kids(sheet: &[u8], h: Head, line: HirId, depth: usize) -> Check
     requires { ⌜ KidsAsk (now sheet) h (line .0) depth ⌝ }
-    ensures { λ r. ⌜ ChecksAs (now (sheet .entry)) (h .next) r (run (kidWants (h .word) (h .count) (h .flag) depth) (line .0) (split 10 (drop (h .next) (now (sheet .entry))))) ⌝ }
+    ensures { λ r. ⌜ ChecksAs (now (sheet .entry)) (h .next) r (run (kidWants (h .word) (h .count) (h .flag) depth) (line .0) (split lineFeed (drop (h .next) (now (sheet .entry))))) ⌝ }
 {
     let kids = kids_of(h);
     let n = kids.all;
@@ -245,7 +246,7 @@ fn refused(why: u32, line: HirId) -> Outline
 // The sheet behind its first line.
 fn check_rest(sheet: &[u8], from: usize, depth: usize) -> Outline
     requires { ⌜ TopAsk (now sheet) from 2 ⌝ }
-    ensures { λ r. ⌜ RestAs depth (now (sheet .entry)) from r (check (bindings 0 depth ∷ []) 2 (split 10 (drop from (now (sheet .entry))))) ⌝ }
+    ensures { λ r. ⌜ RestAs depth (now (sheet .entry)) from r (check (bindings 0 depth ∷ []) 2 (split lineFeed (drop from (now (sheet .entry))))) ⌝ }
 {
     match check_binds(sheet, from, HirId(2)) {
         Check::Refused { why, line } => refused(why, line),

@@ -2,6 +2,7 @@
 ghost use mathlib.Core.Path.{_≡_};
 ghost use Prim.Native.Nat.{_<_, _≤_};
 ghost use lib.ListN.{length};
+ghost use Rattle.semantics.specs.Limits.{typeLimit};
 ghost use Rattle.semantics.specs.Sheet.{Typing};
 ghost use Rattle.walk_run.specs.Run.{start};
 ghost use Rattle.ty.specs.Kind.{SomeKind};
@@ -43,7 +44,7 @@ pub enum Stepped {
 
 // Before the first child.
 pub fn start(rule: usize, work: &mut [u8]) -> Accumulator
-    requires { ⌜ 1024 ≤ length (now work) ⌝ }
+    requires { ⌜ typeLimit ≤ length (now work) ⌝ }
     ensures { λ r. ⌜ (length (now (work .exit)) ≡ length (now (work .entry))) × ((q : Typing) → rule ≡ typingNo q → StAs (start q) (now (work .exit)) r × FineKept (start q)) ⌝ }
 {
     match rule {

@@ -3,6 +3,7 @@ ghost use mathlib.Core.Path.{_≡_};
 ghost use mathlib.Core.Bool.{true};
 ghost use Prim.Native.Nat.{ℕ, suc, _+_, _*_, _≤_, _<_, _/_, _%_};
 ghost use lib.ListN.{length, drop};
+ghost use Rattle.semantics.specs.Codes.{lineFeed, comma};
 ghost use Rattle.semantics.specs.Bytes.{split};
 ghost use Rattle.semantics.specs.Sheet.{Word, fill, bare};
 ghost use Rattle.line.specs.Rows.{codeFrom};
@@ -50,7 +51,7 @@ fn word_code(word: &[u8]) -> u64
 // How many commas stand from `from` on.
 fn commas(line: &[u8], from: usize) -> usize
     requires { ⌜ from ≤ length (now line) ⌝ }
-    ensures { λ r. ⌜ suc r ≡ length (split 44 (drop from (now (line .entry)))) ⌝ }
+    ensures { λ r. ⌜ suc r ≡ length (split comma (drop from (now (line .entry)))) ⌝ }
 {
     let mut n = 0;
     let mut i = from;
@@ -150,7 +151,7 @@ fn read_words(line: &[u8], at: usize, next: usize) -> Head
 // The line at `at`, whatever is wrong with it.
 fn read_any(sheet: &[u8], at: usize) -> Head
     requires { ⌜ at ≤ length (now sheet) ⌝ }
-    ensures { λ r. ⌜ ReadAs (now (sheet .entry)) at r (split 10 (drop at (now (sheet .entry)))) ⌝ }
+    ensures { λ r. ⌜ ReadAs (now (sheet .entry)) at r (split lineFeed (drop at (now (sheet .entry)))) ⌝ }
 {
     let end = text::line_end(sheet, at);
     if end >= sheet.len() {
@@ -162,7 +163,7 @@ fn read_any(sheet: &[u8], at: usize) -> Head
 // The line at `at`, known to be fine or not.
 pub fn read_line(sheet: &[u8], at: usize, fine: bool) -> Head
     requires { ⌜ (at ≤ length (now sheet)) × (fine ≡ true → FineAt (now sheet) at) ⌝ }
-    ensures { λ r. ⌜ ReadAs (now (sheet .entry)) at r (split 10 (drop at (now (sheet .entry)))) ⌝ }
+    ensures { λ r. ⌜ ReadAs (now (sheet .entry)) at r (split lineFeed (drop at (now (sheet .entry)))) ⌝ }
 {
     let h = quick(sheet, at, fine);
     if h.word != 0 {

@@ -6,7 +6,7 @@ ghost use mathlib.Core.Path.{_≡_};
 ghost use Prim.Native.Nat.{_≤_};
 ghost use lib.ListN.{length};
 ghost use lib.Seq.{sets};
-ghost use Rattle.semantics.specs.Limits.{workSize};
+ghost use Rattle.semantics.specs.Limits.{workSize, typeLimit};
 ghost use Rattle.old_lines.specs.Old.{regularCall};
 ghost use Rattle.old.specs.Call.{settledBy, refusedBy, doneBy, SomeOld, Settles};
 
@@ -27,7 +27,7 @@ fn refused(number: u32) -> Outcome
 
 // A line that is regular already, as it stands.
 fn write_given(s: &[u8], out: &mut [u8]) -> Outcome
-    requires { ⌜ length (now s) ≤ 1024 ⌝ }
+    requires { ⌜ length (now s) ≤ typeLimit ⌝ }
     ensures { λ r. ⌜ (r ≡ doneBy (length (now (s .entry)))) × (now (out .exit) ≡ sets (now (out .entry)) 0 (now (s .entry))) ⌝ }
 {
     let n = text::append(out, 0, s);
@@ -39,7 +39,7 @@ fn write_given(s: &[u8], out: &mut [u8]) -> Outcome
 
 // The regular line of an old one to the output.
 fn write_regular(s: &[u8], work: &mut [u8], out: &mut [u8]) -> Outcome
-    requires { ⌜ SomeOld (now s) × (length (now work) ≡ workSize) × (1024 ≤ length (now out)) ⌝ }
+    requires { ⌜ SomeOld (now s) × (length (now work) ≡ workSize) × (typeLimit ≤ length (now out)) ⌝ }
     ensures { λ r. ⌜ Settles (regularCall (now (s .entry)) (now (work .entry)) (now (out .entry)))
         (now (work .entry)) (now (out .entry)) (now (out .exit)) r ⌝ }
 {

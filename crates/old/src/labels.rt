@@ -7,6 +7,7 @@ use ty::Grown;
 ghost use mathlib.Core.Path.{_≡_};
 ghost use Prim.Native.Nat.{_+_, _≤_, _<_};
 ghost use lib.ListN.{length};
+ghost use Rattle.semantics.specs.Limits.{typeLimit};
 ghost use Rattle.ty.specs.Entry.{Fronted, insertedAt};
 ghost use Rattle.old.specs.Make.{StartIn, SomeLabel, LabelSpotted, LabelAdded, SomeNames, LabelsMade};
 
@@ -68,7 +69,7 @@ fn label_spot(work: &[u8], n: usize, name: &[u8]) -> LabelSpot
 
 // The name and a comma at p of the node type [0..n).
 fn insert_label(work: &mut [u8], n: usize, p: usize, name: &[u8]) -> Grown
-    requires { ⌜ (p ≤ n) × (n ≤ length (now work)) × (1024 ≤ length (now work)) ⌝ }
+    requires { ⌜ (p ≤ n) × (n ≤ length (now work)) × (typeLimit ≤ length (now work)) ⌝ }
     ensures { λ r. ⌜ Fronted (now (work .entry)) (now (work .exit)) (insertedAt (now (work .entry)) n n p (now (name .entry))) r ⌝ }
 {
     let k = name.len() + 1;

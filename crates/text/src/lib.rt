@@ -11,7 +11,7 @@ ghost use lib.Seq.{sets, slice};
 ghost use Rattle.semantics.specs.Codes.{comma, lineFeed};
 ghost use Rattle.semantics.specs.Bytes.{lex, same, digit?, unhex, decimal, digits};
 ghost use Rattle.semantics.specs.Builtins.{lower, folded};
-ghost use Rattle.text.specs.Text.{orderOf, hex?, digitOf, some?, grown, decOf, Ends, rotated};
+ghost use Rattle.text.specs.Text.{aside, orderOf, hex?, digitOf, some?, grown, decOf, Ends, rotated};
 
 // What ends a field, and a line.
 pub const COMMA: u8 = b',';
@@ -110,7 +110,7 @@ const ASIDE: usize = 1024;
 
 // `slide_up` of so few bytes that they can be kept aside.
 fn slide_aside(s: &mut [u8], from: usize, to: usize, len: usize)
-    requires { ⌜ (from + len ≤ length (now s)) × (to + len ≤ length (now s)) × (len ≤ 1024) ⌝ }
+    requires { ⌜ (from + len ≤ length (now s)) × (to + len ≤ length (now s)) × (len ≤ aside) ⌝ }
     ensures { λ _. ⌜ now (s .exit) ≡ sets (now (s .entry)) to (slice from (from + len) (now (s .entry))) ⌝ }
 {
     let mut kept = [0u8; ASIDE];
@@ -144,7 +144,7 @@ pub fn slide_up(s: &mut [u8], from: usize, to: usize, len: usize)
 
 // `rotate` with a first part of so few bytes that they can be kept aside.
 fn rotate_aside(s: &mut [u8], a: usize, m: usize, e: usize)
-    requires { ⌜ (a ≤ m) × (m ≤ e) × (e ≤ length (now s)) × (m ≤ a + 1024) ⌝ }
+    requires { ⌜ (a ≤ m) × (m ≤ e) × (e ≤ length (now s)) × (m ≤ a + aside) ⌝ }
     ensures { λ _. ⌜ now (s .exit) ≡ rotated a m e (now (s .entry)) ⌝ }
 {
     let mut kept = [0u8; ASIDE];

@@ -3,6 +3,7 @@ ghost use mathlib.Core.Path.{_≡_};
 ghost use mathlib.Core.Bool.{not};
 ghost use Prim.Native.Nat.{_+_, _≤_, _<_, _^_};
 ghost use lib.ListN.{length, drop, getD};
+ghost use Rattle.semantics.specs.Codes.{comma};
 ghost use Rattle.bytes.specs.Bytes.{indexOf};
 ghost use Rattle.ty.specs.Parts.{TypeFrom, EndsAt};
 ghost use Rattle.semantics.specs.Ty.{Ty, line, tooLarge};
@@ -35,7 +36,7 @@ pub enum TypeEnd {
 
 // The field after the one at q.
 pub fn next_field(s: &[u8], q: usize) -> usize
-    requires { ⌜ q + indexOf 44 (drop q (now s)) < length (now s) ⌝ }
+    requires { ⌜ q + indexOf comma (drop q (now s)) < length (now s) ⌝ }
     ensures { λ r. ⌜ r ≡ nextField (now (s .entry)) q ⌝ }
 {
     let mut i = q;

@@ -2,6 +2,7 @@
 ghost use mathlib.Core.Path.{_≡_};
 ghost use Prim.Native.Nat.{_+_, _≤_};
 ghost use lib.ListN.{length};
+ghost use Rattle.semantics.specs.Limits.{typeLimit};
 ghost use Rattle.ty.specs.Entry.{SomeMap, Spotted, Fronted, insertedAt, replacedAt, FrontOf, TestedAs, Entering, Entered};
 use crate::Grown;
 use crate::end::fits;
@@ -51,7 +52,7 @@ pub fn entry_spot(part: &[u8], len: usize, name: &[u8]) -> Spot
 
 // The entry at p: room for the name, the name, and the value [len..end) behind it.
 pub fn insert_entry(part: &mut [u8], len: usize, end: usize, p: usize, name: &[u8]) -> Grown
-    requires { ⌜ (p ≤ len) × (len ≤ end) × (end ≤ length (now part)) × (1024 ≤ length (now part)) ⌝ }
+    requires { ⌜ (p ≤ len) × (len ≤ end) × (end ≤ length (now part)) × (typeLimit ≤ length (now part)) ⌝ }
     ensures { λ r. ⌜ Fronted (now (part .entry)) (now (part .exit)) (insertedAt (now (part .entry)) len end p (now (name .entry))) r ⌝ }
 {
     let k = name.len() + 1;
