@@ -8,16 +8,18 @@ use borrow.Author.Tests.{eq-eqb, ne-eqb, le-leb, lt-leb}
 use lib.Dec.{eqb, leb}
 use lib.ListN.{length, getD}
 use lib.Seq.{slice}
+use Rattle.semantics.specs.Codes.{anyLetter, unknownLetter}
 use Rattle.semantics.specs.Bytes.{Bytes, same}
 use Rattle.semantics.specs.Ty.{Base, tAny, tNull, tBool, tInt, tFloat, tNum, tString, tDate, tDatetime, tPath, tUnknown, Ty, base, tList, tMap, tNode, tRelationship, tUnion, letter, among, matches, equal}
 use Rattle.semantics.specs.Unify.{numbers, widening, apart, meeting}
 use Rattle.semantics.proofs.Order.{letter-inj, equal-refl}
 use Rattle.ty.specs.Parts.{TypeAt}
+use Rattle.ty.specs.Predicates.{numeric}
 use Rattle.ty.specs.Read.{kindOf}
 use Rattle.ty.proofs.Lines.{special, letter-away}
 use Rattle.ty.proofs.KindLaws.{kind-at, two-at}
 use Rattle.unify.specs.Arms.{pairArm, armOf, hasParts}
-use Rattle.unify.specs.Letters.{numeric, armOfKind, armOfKinds, armOfUnequal}
+use Rattle.unify.specs.Letters.{armOfKind, armOfKinds, armOfUnequal}
 
 -- ## By letters
 
@@ -123,61 +125,46 @@ unequal-letters t u e = go (matches t (tNull ∷ [])) (matches u (tNull ∷ []))
     go false false p q = rw (p, q, armOfUnequal) (pair-letters t u e)
 
 -- what the code reads
-reads-yes : {s : Bytes} {a e : ℕ} {t : Ty} → TypeAt s a e t → (b : Base) → getD s a 0 ≡ letter b → matches t (b ∷ []) ≡ true
-reads-yes {s} {a} {e} {t} f b p = matches-letter t b ∙ eq-eqb (kindOf t) (letter b) (sym (kind-at s a e t f) ∙ p)
-
-reads-no : {s : Bytes} {a e : ℕ} {t : Ty} → TypeAt s a e t → (b : Base) → (getD s a 0 ≡ letter b → ⊥) → matches t (b ∷ []) ≡ false
-reads-no {s} {a} {e} {t} f b p = matches-letter t b ∙ ne-eqb (kindOf t) (letter b) (λ q. p (kind-at s a e t f ∙ q))
+reads : {s : Bytes} {a e : ℕ} {t : Ty} → TypeAt s a e t → (b : Base) {x : Bool} → eqb (getD s a 0) (letter b) ≡ x → matches t (b ∷ []) ≡ x
+reads {s} {a} {e} {t} f b p = matches-letter t b ∙ ap (λ (k : ℕ). eqb k (letter b)) (sym (kind-at s a e t f)) ∙ p
 
 pub type-begins : {s : Bytes} {a e : ℕ} {t : Ty} → TypeAt s a e t → a < length s
 type-begins {s} {a} {e} {t} f = omega (arith, two-at s a e t f, f .inside)
 
 module _ {s : Bytes} {a ae b be : ℕ} {t u : Ty} (f : TypeAt s a ae t) (g : TypeAt s b be u) where
-  pub arm-any-first : getD s a 0 ≡ 65 → 1 ≡ armOf t u
+  pub arm-any-first : eqb (getD s a 0) anyLetter ≡ true → 1 ≡ armOf t u
   unfolding armOf letter
-  arm-any-first p = rw (reads-yes f tAny p, armOf)
+  arm-any-first p = rw (reads f tAny p, armOf)
 
-  pub arm-any-second : (getD s a 0 ≡ 65 → ⊥) → getD s b 0 ≡ 65 → 0 ≡ armOf t u
+  pub arm-any-second : eqb (getD s a 0) anyLetter ≡ false → eqb (getD s b 0) anyLetter ≡ true → 0 ≡ armOf t u
   unfolding armOf letter
-  arm-any-second p q = rw (reads-no f tAny p, reads-yes g tAny q, armOf)
+  arm-any-second p q = rw (reads f tAny p, reads g tAny q, armOf)
 
-  pub arm-unknown-first : (getD s a 0 ≡ 65 → ⊥) → (getD s b 0 ≡ 65 → ⊥) → getD s a 0 ≡ 80 → 2 ≡ armOf t u
+  pub arm-unknown-first : eqb (getD s a 0) anyLetter ≡ false → eqb (getD s b 0) anyLetter ≡ false → eqb (getD s a 0) unknownLetter ≡ true → 2 ≡ armOf t u
   unfolding armOf letter
-  arm-unknown-first p q v = rw (reads-no f tAny p, reads-no g tAny q, reads-yes f tUnknown v, armOf)
+  arm-unknown-first p q v = rw (reads f tAny p, reads g tAny q, reads f tUnknown v, armOf)
 
-  pub arm-unknown-second : (getD s a 0 ≡ 65 → ⊥) → (getD s b 0 ≡ 65 → ⊥) → (getD s a 0 ≡ 80 → ⊥) → getD s b 0 ≡ 80 → 2 ≡ armOf t u
+  pub arm-unknown-second : eqb (getD s a 0) anyLetter ≡ false → eqb (getD s b 0) anyLetter ≡ false → eqb (getD s a 0) unknownLetter ≡ false → eqb (getD s b 0) unknownLetter ≡ true → 2 ≡ armOf t u
   unfolding armOf letter
-  arm-unknown-second p q v w = rw (reads-no f tAny p, reads-no g tAny q, reads-no f tUnknown v, reads-yes g tUnknown w, armOf)
+  arm-unknown-second p q v w = rw (reads f tAny p, reads g tAny q, reads f tUnknown v, reads g tUnknown w, armOf)
 
   pub same-lines : same (slice a ae s) (slice b be s) ≡ equal t u
   unfolding equal
   same-lines = ap₂ same (f .is) (g .is)
 
-  module _ (p : getD s a 0 ≡ 65 → ⊥) (q : getD s b 0 ≡ 65 → ⊥) (v : getD s a 0 ≡ 80 → ⊥) (w : getD s b 0 ≡ 80 → ⊥) (r : Bool) (x : r ≡ same (slice a ae s) (slice b be s)) where
+  module _ (p : eqb (getD s a 0) anyLetter ≡ false) (q : eqb (getD s b 0) anyLetter ≡ false) (v : eqb (getD s a 0) unknownLetter ≡ false) (w : eqb (getD s b 0) unknownLetter ≡ false) (r : Bool) (x : r ≡ same (slice a ae s) (slice b be s)) where
     pub arm-equal : r ≡ true → 0 ≡ armOf t u
     unfolding armOf letter
-    arm-equal e = let z : equal t u ≡ true = sym same-lines ∙ sym x ∙ e in rw (reads-no f tAny p, reads-no g tAny q, reads-no f tUnknown v, reads-no g tUnknown w, z, armOf)
+    arm-equal e = let z : equal t u ≡ true = sym same-lines ∙ sym x ∙ e in rw (reads f tAny p, reads g tAny q, reads f tUnknown v, reads g tUnknown w, z, armOf)
 
     pub arm-unequal : r ≡ false → (n : ℕ) → n ≡ armOfUnequal (getD s a 0) (getD s b 0) → n ≡ armOf t u
     unfolding armOf letter
     arm-unequal e n h =
         let z : equal t u ≡ false = sym same-lines ∙ sym x ∙ e in
         let k : n ≡ armOfUnequal (kindOf t) (kindOf u) = h ∙ ap₂ armOfUnequal (kind-at s a ae t f) (kind-at s b be u g) in
-        rw (reads-no f tAny p, reads-no g tAny q, reads-no f tUnknown v, reads-no g tUnknown w, z, armOf) (k ∙ sym (unequal-letters t u z))
+        rw (reads f tAny p, reads g tAny q, reads f tUnknown v, reads g tUnknown w, z, armOf) (k ∙ sym (unequal-letters t u z))
 
 -- the tests
-pub numeric-yes : (k : ℕ) → 68 ≤ k → k ≤ 70 → true ≡ numeric k
-unfolding numeric
-numeric-yes k p q = rw (le-leb 68 k p, le-leb k 70 q)
-
-pub numeric-low : (k : ℕ) → k < 68 → false ≡ numeric k
-unfolding numeric
-numeric-low k p = rw (lt-leb 68 k p)
-
-pub numeric-high : (k : ℕ) → 70 < k → false ≡ numeric k
-unfolding numeric
-numeric-high k p = rw (lt-leb k 70 p, numeric-last (leb 68 k))
-
 pub kind-other : (k : ℕ) → (k ≡ 74 → ⊥) → (k ≡ 75 → ⊥) → (k ≡ 76 → ⊥) → (k ≡ 77 → ⊥) → (k ≡ 79 → ⊥) → 13 ≡ armOfKind k
 unfolding armOfKind
 kind-other k a b c d e = rw (ne-eqb k 74 a, ne-eqb k 75 b, ne-eqb k 76 c, ne-eqb k 77 d, ne-eqb k 79 e)

@@ -1,13 +1,10 @@
 -- The arm of two types by their kind letters, the first bytes of their lines.
 use Prim.Native.Nat.{ℕ}
-use mathlib.Core.Bool.{Bool, cond, _&&_}
-use lib.Dec.{eqb, leb}
-use Rattle.semantics.specs.Codes.{nullLetter, intLetter, numLetter, listLetter, mapLetter, nodeLetter, relationshipLetter, unionLetter}
+use mathlib.Core.Bool.{cond, _&&_}
+use lib.Dec.{eqb}
+use Rattle.semantics.specs.Codes.{nullLetter, listLetter, mapLetter, nodeLetter, relationshipLetter, unionLetter}
+use Rattle.ty.specs.Predicates.{numeric}
 use Rattle.unify.specs.Codes.{nullLeftArm, nullRightArm, numbersArm, listsArm, mapsArm, nodesArm, relationshipsArm, unionsArm, unionLeftArm, unionRightArm, apartArm}
-
--- Int, Float, Num
-unfoldable pub numeric : ℕ → Bool
-numeric k = leb intLetter k && leb k numLetter
 
 -- two types of one kind
 unfoldable pub armOfKind : ℕ → ℕ

@@ -1,18 +1,15 @@
 // Which arm of the Rust's `match` two types meet.
 ghost use mathlib.Core.Bool.{_&&_};
 ghost use mathlib.Core.Path.{_≡_};
-ghost use Rattle.unify.specs.Letters.{numeric, armOfKind, armOfKinds, armOfUnequal};
+ghost use Rattle.ty.specs.Predicates.{numeric};
+ghost use Rattle.unify.specs.Letters.{armOfKind, armOfKinds, armOfUnequal};
 ghost use Rattle.unify.specs.Steps.{TwoTypes, ArmIs};
-use ty::ANY;
-use ty::INT;
 use ty::LIST;
 use ty::MAP;
 use ty::NODE;
 use ty::NULL;
-use ty::NUM;
 use ty::RELATIONSHIP;
 use ty::UNION;
-use ty::UNKNOWN;
 
 // The arms: the answer is one of the two, or Unknown; Null and another; two numbers, lists, maps, nodes, relationships; two unions, one
 // union; two types that do not unify.
@@ -44,21 +41,11 @@ pub const UNION_RIGHT: u8 = 12;
 
 pub const APART: u8 = 13;
 
-// Int, Float, Num.
-fn is_numeric(k: u8) -> bool
-    ensures { λ r. ⌜ r ≡ numeric k ⌝ }
-{
-    match k {
-        INT..=NUM => true,
-        _ => false,
-    }
-}
-
 fn both_numeric(j: u8, k: u8) -> bool
     ensures { λ r. ⌜ r ≡ (numeric j && numeric k) ⌝ }
 {
-    if is_numeric(j) {
-        return is_numeric(k);
+    if ty::is_numeric(j) {
+        return ty::is_numeric(k);
     }
     false
 }
@@ -116,16 +103,16 @@ pub fn arm(work: &[u8], a: usize, ae: usize, b: usize, be: usize) -> u8
 {
     let j = work[a];
     let k = work[b];
-    if j == ANY {
+    if ty::is_any(j) {
         return RIGHT;
     }
-    if k == ANY {
+    if ty::is_any(k) {
         return LEFT;
     }
-    if j == UNKNOWN {
+    if ty::is_unknown(j) {
         return ANY_UNKNOWN;
     }
-    if k == UNKNOWN {
+    if ty::is_unknown(k) {
         return ANY_UNKNOWN;
     }
     if text::same_in(work, a, ae, b, be) {
