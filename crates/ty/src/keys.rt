@@ -5,11 +5,18 @@ ghost use Prim.Native.Nat.{ℕ, _+_, _≤_, _<_};
 ghost use lib.ListN.{length};
 ghost use Rattle.ty.specs.Keys.{keyOf, byteBefore, headOf, Below, nameKey, NameBelow};
 
+// What the first three of four bytes count in a key; the last counts once.
+const FIRST: u32 = 16777216;
+
+const SECOND: u32 = 65536;
+
+const THIRD: u32 = 256;
+
 // Four bytes as one number, so that they are compared at once.
 fn key_of(a: u8, b: u8, c: u8, d: u8) -> u32
     ensures { λ r. ⌜ r ≡ keyOf a b c d ⌝ }
 {
-    a as u32 * 16777216 + b as u32 * 65536 + c as u32 * 256 + d as u32
+    a as u32 * FIRST + b as u32 * SECOND + c as u32 * THIRD + d as u32
 }
 
 // The byte at i, 0 from `end` on.
