@@ -19,11 +19,11 @@ returns c =
     let p = call-prints _ _ _ _ _ _ _ _ (search needs) (c .before .before .before .before .before .infer-types .ensures) in
     (p .inside (c .if1 .taken), p .report (c .if1 .taken))
 
-cast-refused-line : tie.Need-cast-refused-line
-cast-refused-line c = search needs
+cast-say-refused : tie.Need-cast-say-refused
+cast-say-refused c = search needs
 
-refused-line-requires : tie.Need-refused-line-requires
-refused-line-requires c κs = search needs
+say-refused-requires : tie.Need-say-refused-requires
+say-refused-requires c κs = search needs
 
 same-length-2 : tie.Need-same-length-2
 same-length-2 c = search needs
@@ -32,7 +32,7 @@ returns-2 : tie.Need-returns-2
 returns-2 c =
     let i = c .before .before .before .before .before .before .before .before .before .before .infer-types in
     let p = call-prints _ _ _ _ _ _ _ _ (search needs) (i .ensures) in
-    refusal-printed _ _ _ _ _ _ _ (c .before .before .refused-line .ensures) (c .before .before .before .before .before .before .before .before .before .before .before .before .before .before .before .pre) (search needs)
+    refusal-printed _ _ _ _ _ _ _ (c .before .before .say-refused .ensures) (c .before .before .before .before .before .before .before .before .before .before .before .before .before .before .before .pre) (search needs)
     (p .refusal (c .before .before .before .before .before .if1 .left))
 
 pub print-sheet-spec : {M : Type 1} → statement M
@@ -43,7 +43,7 @@ print-sheet-spec =
     infer-types-requires
     same-length
     returns
-    cast-refused-line
-    refused-line-requires
+    cast-say-refused
+    say-refused-requires
     same-length-2
     returns-2)
