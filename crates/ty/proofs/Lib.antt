@@ -10,7 +10,6 @@ pub mod Lines
 pub mod Loops
 pub mod MergeLaws
 pub mod NameLaws
-pub mod Numbers
 pub mod Places
 pub mod Sizes
 pub mod Skips

@@ -4,7 +4,6 @@ pub mod Kind
 pub mod Made
 pub mod Merging
 pub mod Parts
-pub mod Predicates
 pub mod Read
 pub mod Skip
 pub mod Union

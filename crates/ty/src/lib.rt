@@ -1,4 +1,4 @@
-// Type lines (ty.rs): where a type ends, its size, the strict reader, the running union, map entries, label sets, predicates, type names.
+// Type lines (ty.rs): where a type ends, its size, the strict reader, the running union, map entries, label sets, type names.
 mod end;
 mod keys;
 mod label_sets;
@@ -6,7 +6,6 @@ mod letters;
 mod map;
 mod merging;
 mod names;
-mod predicates;
 mod reader;
 mod union;
 
@@ -53,9 +52,6 @@ pub use merging::next_name;
 pub use merging::take;
 pub use merging::taken;
 pub use names::type_name;
-pub use predicates::is_any;
-pub use predicates::is_numeric;
-pub use predicates::is_unknown;
 pub use reader::is_name;
 pub use reader::is_type_line;
 pub use reader::read_relationship;

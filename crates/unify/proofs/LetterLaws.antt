@@ -14,7 +14,7 @@ use Rattle.semantics.specs.Ty.{Base, tAny, tNull, tBool, tInt, tFloat, tNum, tS
 use Rattle.semantics.specs.Unify.{numbers, widening, apart, meeting}
 use Rattle.semantics.proofs.Order.{letter-inj, equal-refl}
 use Rattle.ty.specs.Parts.{TypeAt}
-use Rattle.ty.specs.Predicates.{numeric}
+use Rattle.unify.specs.Predicates.{numeric}
 use Rattle.ty.specs.Read.{kindOf}
 use Rattle.ty.proofs.Lines.{special, letter-away}
 use Rattle.ty.proofs.KindLaws.{kind-at, two-at}

@@ -1,4 +1,5 @@
 pub mod Operands
+pub mod Numbers
 pub mod LetterLaws
 pub mod ArmLaws
 pub mod FlatLaws

@@ -3,7 +3,7 @@ use Prim.Native.Nat.{ℕ}
 use mathlib.Core.Bool.{cond, _&&_}
 use lib.Dec.{eqb}
 use Rattle.semantics.specs.Codes.{nullLetter, listLetter, mapLetter, nodeLetter, relationshipLetter, unionLetter}
-use Rattle.ty.specs.Predicates.{numeric}
+use Rattle.unify.specs.Predicates.{numeric}
 use Rattle.unify.specs.Codes.{nullLeftArm, nullRightArm, numbersArm, listsArm, mapsArm, nodesArm, relationshipsArm, unionsArm, unionLeftArm, unionRightArm, apartArm}
 
 -- two types of one kind

@@ -4,6 +4,7 @@ pub mod Arms
 pub mod Frames
 pub mod Made
 pub mod Steps
+pub mod Predicates
 pub mod Letters
 pub mod Flat
 pub mod Variants

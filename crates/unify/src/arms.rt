@@ -1,9 +1,12 @@
 // Which arm of the Rust's `match` two types meet.
 ghost use mathlib.Core.Bool.{_&&_};
 ghost use mathlib.Core.Path.{_≡_};
-ghost use Rattle.ty.specs.Predicates.{numeric};
+ghost use Rattle.unify.specs.Predicates.{numeric};
 ghost use Rattle.unify.specs.Letters.{armOfKind, armOfKinds, armOfUnequal};
 ghost use Rattle.unify.specs.Steps.{TwoTypes, ArmIs};
+use crate::predicates::is_any;
+use crate::predicates::is_numeric;
+use crate::predicates::is_unknown;
 use ty::LIST;
 use ty::MAP;
 use ty::NODE;
@@ -44,8 +47,8 @@ pub const APART: u8 = 13;
 fn both_numeric(j: u8, k: u8) -> bool
     ensures { λ r. ⌜ r ≡ (numeric j && numeric k) ⌝ }
 {
-    if ty::is_numeric(j) {
-        return ty::is_numeric(k);
+    if is_numeric(j) {
+        return is_numeric(k);
     }
     false
 }
@@ -103,16 +106,16 @@ pub fn arm(work: &[u8], a: usize, ae: usize, b: usize, be: usize) -> u8
 {
     let j = work[a];
     let k = work[b];
-    if ty::is_any(j) {
+    if is_any(j) {
         return RIGHT;
     }
-    if ty::is_any(k) {
+    if is_any(k) {
         return LEFT;
     }
-    if ty::is_unknown(j) {
+    if is_unknown(j) {
         return ANY_UNKNOWN;
     }
-    if ty::is_unknown(k) {
+    if is_unknown(k) {
         return ANY_UNKNOWN;
     }
     if text::same_in(work, a, ae, b, be) {

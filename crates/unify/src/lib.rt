@@ -5,6 +5,7 @@ mod frames;
 mod lists;
 mod made;
 mod maps;
+mod predicates;
 mod unions;
 
 pub use frames::unify;

@@ -1,8 +1,8 @@
 -- `ty::predicates::is_numeric` meets its contract. Assumes nothing.
 use native.Mathlib.Omega.{arith}
-use Rattle.ty.proofs.Numbers.{numeric-yes, numeric-low, numeric-high}
-use Rattle.ty.proofs.predicates.is_numeric.Statement.{statement}
-use Rattle.ty.proofs.predicates.is_numeric.Tie as tie
+use Rattle.unify.proofs.Numbers.{numeric-yes, numeric-low, numeric-high}
+use Rattle.unify.proofs.predicates.is_numeric.Statement.{statement}
+use Rattle.unify.proofs.predicates.is_numeric.Tie as tie
 
 returns : tie.Need-returns
 returns c = numeric-yes _ (c .before .if1 .left) (omega arith)

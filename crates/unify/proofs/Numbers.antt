@@ -5,7 +5,7 @@ use Prim.Native.Nat.{ℕ, _≤_, _<_}
 use borrow.Author.Tests.{le-leb, lt-leb}
 use lib.Dec.{leb}
 use Rattle.semantics.specs.Codes.{intLetter, numLetter}
-use Rattle.ty.specs.Predicates.{numeric}
+use Rattle.unify.specs.Predicates.{numeric}
 
 and-false : (x : Bool) → (x && false) ≡ false
 and-false true = refl
