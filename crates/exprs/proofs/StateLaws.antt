@@ -64,7 +64,7 @@ map-is h s f = record { len = h .0; second = h .1; over = h .2; front = f }
 
 -- what is put to the front stands there
 put-front : {x s s′ : Bytes} {k : ℕ} → length x ≤ length s → Puts x s s′ k → take (length x) s′ ≡ x
-put-front {x} {s} h p = ap (take (length x)) (p .text ∙ sets-parts s 0 x h) ∙ take-at x (drop (0 + length x) s) (length x) refl
+put-front {x} {s} h p = ap (take (length x)) (p .text ∙ sets-parts s 0 x (omega arith)) ∙ take-at x (drop (0 + length x) s) (length x) refl
 
 put-long : {x s s′ : Bytes} {k : ℕ} → Puts x s s′ k → length s′ ≡ length s
 put-long {x} {s} p = ap length (p .text) ∙ length-sets s 0 x

@@ -14,7 +14,7 @@ same-length : tie.Need-same-length
 same-length c = search needs
 
 returns : tie.Need-returns
-returns c = list-put (c .before .before .before .pre) (c .before .put-letter .ensures) (c .state .ensures)
+returns c = list-put (c .before .before .before .before .before .before .pre) (c .before .before .before .put-letter .ensures) (c .state .ensures)
 
 pub start-list-spec : {M : Type 1} → statement M
 start-list-spec = tie.close (tie.spec put-letter-requires state-requires same-length returns)

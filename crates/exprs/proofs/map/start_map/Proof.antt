@@ -14,7 +14,7 @@ same-length : tie.Need-same-length
 same-length c = search needs
 
 returns : tie.Need-returns
-returns c = map-put (c .before .before .before .pre) (c .before .put-pair .ensures) (c .state .ensures)
+returns c = map-put (c .before .before .before .before .before .before .pre) (c .before .before .before .put-pair .ensures) (c .state .ensures)
 
 pub start-map-spec : {M : Type 1} → statement M
 start-map-spec = tie.close (tie.spec put-pair-requires state-requires same-length returns)

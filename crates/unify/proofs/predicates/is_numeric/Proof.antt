@@ -1,4 +1,4 @@
--- `ty::predicates::is_numeric` meets its contract. Assumes nothing.
+-- `is_numeric` meets its contract. Assumes nothing.
 use native.Mathlib.Omega.{arith}
 use Rattle.unify.proofs.Numbers.{numeric-yes, numeric-low, numeric-high}
 use Rattle.unify.proofs.predicates.is_numeric.Statement.{statement}
