@@ -141,15 +141,15 @@ kind c = elim (eqb c 74) [ true ↦ 1 | false ↦ elim (eqb c 75) [ true ↦ 1 |
 
 plain-letter : (b : Base) → kind (letter b) ≡ 0
 unfolding kind letter
-plain-letter b = elim b [ t_any ↦ refl | t_null ↦ refl | t_bool ↦ refl | t_int ↦ refl | t_float ↦ refl | t_num ↦ refl | t_string ↦ refl | t_date ↦ refl | t_datetime ↦ refl | t_path ↦ refl | t_unknown ↦ refl ]
+plain-letter b = elim b as (λ k. kind (letter k) ≡ 0) [ t_any ↦ refl | t_null ↦ refl | t_bool ↦ refl | t_int ↦ refl | t_float ↦ refl | t_num ↦ refl | t_string ↦ refl | t_date ↦ refl | t_datetime ↦ refl | t_path ↦ refl | t_unknown ↦ refl ]
 
 letter-low : (b : Base) → 44 ≤ letter b
 unfolding letter
-letter-low b = elim b [ t_any ↦ omega arith | t_null ↦ omega arith | t_bool ↦ omega arith | t_int ↦ omega arith | t_float ↦ omega arith | t_num ↦ omega arith | t_string ↦ omega arith | t_date ↦ omega arith | t_datetime ↦ omega arith | t_path ↦ omega arith | t_unknown ↦ omega arith ]
+letter-low b = elim b as (λ k. 44 ≤ letter k) [ t_any ↦ omega arith | t_null ↦ omega arith | t_bool ↦ omega arith | t_int ↦ omega arith | t_float ↦ omega arith | t_num ↦ omega arith | t_string ↦ omega arith | t_date ↦ omega arith | t_datetime ↦ omega arith | t_path ↦ omega arith | t_unknown ↦ omega arith ]
 
 base-letter : (b : Base) → base_in (letter b) bases ≡ some b
 unfolding letter base_in
-base-letter b = elim b [ t_any ↦ refl | t_null ↦ refl | t_bool ↦ refl | t_int ↦ refl | t_float ↦ refl | t_num ↦ refl | t_string ↦ refl | t_date ↦ refl | t_datetime ↦ refl | t_path ↦ refl | t_unknown ↦ refl ]
+base-letter b = elim b as (λ k. base_in (letter k) bases ≡ some k) [ t_any ↦ refl | t_null ↦ refl | t_bool ↦ refl | t_int ↦ refl | t_float ↦ refl | t_num ↦ refl | t_string ↦ refl | t_date ↦ refl | t_datetime ↦ refl | t_path ↦ refl | t_unknown ↦ refl ]
 
 pub letter-inj : (b c : Base) → letter b ≡ letter c → b ≡ c
 letter-inj b c p = some-injective b c (sym (base-letter b) ∙ ap (λ n. base_in n bases) p ∙ base-letter c)

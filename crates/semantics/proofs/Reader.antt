@@ -111,7 +111,7 @@ name-no-mark (d ∷ n) = go (is_closing (name_f (d ∷ n))) refl
 
 opening-no-mark : (t : Ty) → is_closing (opening t) ≡ false
 unfolding same lex opening letter
-opening-no-mark (base b) = elim b [ t_any ↦ refl | t_null ↦ refl | t_bool ↦ refl | t_int ↦ refl | t_float ↦ refl | t_num ↦ refl | t_string ↦ refl | t_date ↦ refl | t_datetime ↦ refl | t_path ↦ refl | t_unknown ↦ refl ]
+opening-no-mark (base b) = elim b as (λ k. is_closing (opening (base k)) ≡ false) [ t_any ↦ refl | t_null ↦ refl | t_bool ↦ refl | t_int ↦ refl | t_float ↦ refl | t_num ↦ refl | t_string ↦ refl | t_date ↦ refl | t_datetime ↦ refl | t_path ↦ refl | t_unknown ↦ refl ]
 opening-no-mark (t_list t) = refl
 opening-no-mark (t_map fs) = refl
 opening-no-mark (t_node ls) = refl
@@ -140,7 +140,7 @@ read-base : (ty : List Bytes → Front Ty) (entries : List Bytes → Front Field
     → read_by ty entries membs (letter b ∷ []) r ≡ some (base b, r)
 unfolding read_by read_base base_in letter
 read-base ty entries membs b r =
-    elim b [ t_any ↦ refl | t_null ↦ refl | t_bool ↦ refl | t_int ↦ refl | t_float ↦ refl | t_num ↦ refl | t_string ↦ refl | t_date ↦ refl | t_datetime ↦ refl | t_path ↦ refl | t_unknown ↦ refl ]
+    elim b as (λ k. read_by ty entries membs (letter k ∷ []) r ≡ some (base k, r)) [ t_any ↦ refl | t_null ↦ refl | t_bool ↦ refl | t_int ↦ refl | t_float ↦ refl | t_num ↦ refl | t_string ↦ refl | t_date ↦ refl | t_datetime ↦ refl | t_path ↦ refl | t_unknown ↦ refl ]
 
 -- the fields after a type are no more than all of them
 longer-names : (ns : List Bytes) (r : List Bytes) → length r ≤ length (names_f ns r)

@@ -120,7 +120,7 @@ split-rel (some n) s = ap (λ (r : List Bytes). (43 ∷ []) ∷ r) (split-name n
 
 split-letter : (b : Base) (s : Bytes) → split 44 (letter b ∷ 44 ∷ s) ≡ (letter b ∷ []) ∷ split 44 s
 unfolding split front letter
-split-letter b s = elim b [ t_any ↦ refl | t_null ↦ refl | t_bool ↦ refl | t_int ↦ refl | t_float ↦ refl | t_num ↦ refl | t_string ↦ refl | t_date ↦ refl | t_datetime ↦ refl | t_path ↦ refl | t_unknown ↦ refl ]
+split-letter b s = elim b as (λ k. split 44 (letter k ∷ 44 ∷ s) ≡ (letter k ∷ []) ∷ split 44 s) [ t_any ↦ refl | t_null ↦ refl | t_bool ↦ refl | t_int ↦ refl | t_float ↦ refl | t_num ↦ refl | t_string ↦ refl | t_date ↦ refl | t_datetime ↦ refl | t_path ↦ refl | t_unknown ↦ refl ]
 
 mutual
   unfolding split front line_to opening inside

@@ -19,7 +19,7 @@ use Rattle.semantics.proofs.All.{All, empty, also, all_append}
 complete : (v : Word) → word_in (text (row v).spelled) words ≡ some v
 unfolding word_in row text same lex
 complete v =
-    elim v [ cyrs_word ↦ refl | b_word ↦ refl | end_word ↦ refl | mat_word ↦ refl | cre_word ↦ refl | mer_word ↦ refl | whe_word ↦ refl | wit_word ↦ refl | ret_word ↦ refl | unw_word ↦ refl | set_word ↦ refl | rem_word ↦ refl | del_word ↦ refl | cal_word ↦ refl | pro_word ↦ refl | sp_word ↦ refl | sl_word ↦ refl | sm_word ↦ refl | rp_word ↦ refl | rl_word ↦ refl | lab_word ↦ refl | parts_word ↦ refl | part_word ↦ refl | nod_word ↦ refl | rel_word ↦ refl | null_word ↦ refl | bool_word ↦ refl | int_word ↦ refl | flt_word ↦ refl | str_word ↦ refl | var_word ↦ refl | par_word ↦ refl | unr_word ↦ refl | exi_word ↦ refl | prop_word ↦ refl | idx_word ↦ refl | sli_word ↦ refl | lis_word ↦ refl | map_word ↦ refl | key_word ↦ refl | call_word ↦ refl | bin_word ↦ refl | una_word ↦ refl | case_word ↦ refl | isn_word ↦ refl | in_word ↦ refl | pat_word ↦ refl | lcp_word ↦ refl | pcp_word ↦ refl | lpr_word ↦ refl | mpr_word ↦ refl | cop_word ↦ refl | com_word ↦ refl | sho_word ↦ refl | ali_word ↦ refl ]
+    elim v as (λ w. word_in (text (row w).spelled) words ≡ some w) [ cyrs_word ↦ refl | b_word ↦ refl | end_word ↦ refl | mat_word ↦ refl | cre_word ↦ refl | mer_word ↦ refl | whe_word ↦ refl | wit_word ↦ refl | ret_word ↦ refl | unw_word ↦ refl | set_word ↦ refl | rem_word ↦ refl | del_word ↦ refl | cal_word ↦ refl | pro_word ↦ refl | sp_word ↦ refl | sl_word ↦ refl | sm_word ↦ refl | rp_word ↦ refl | rl_word ↦ refl | lab_word ↦ refl | parts_word ↦ refl | part_word ↦ refl | nod_word ↦ refl | rel_word ↦ refl | null_word ↦ refl | bool_word ↦ refl | int_word ↦ refl | flt_word ↦ refl | str_word ↦ refl | var_word ↦ refl | par_word ↦ refl | unr_word ↦ refl | exi_word ↦ refl | prop_word ↦ refl | idx_word ↦ refl | sli_word ↦ refl | lis_word ↦ refl | map_word ↦ refl | key_word ↦ refl | call_word ↦ refl | bin_word ↦ refl | una_word ↦ refl | case_word ↦ refl | isn_word ↦ refl | in_word ↦ refl | pat_word ↦ refl | lcp_word ↦ refl | pcp_word ↦ refl | lpr_word ↦ refl | mpr_word ↦ refl | cop_word ↦ refl | com_word ↦ refl | sho_word ↦ refl | ali_word ↦ refl ]
 
 among : {A : Type 0} (f g : Word → A) (x : Bytes) (vs : List Word) (v : Word) → word_in x vs ≡ some v → map f vs ≡ map g vs → f v ≡ g v
 unfolding word_in
