@@ -1,4 +1,6 @@
 // The built-in functions (builtins.rs): a constant table of name, argument shape and return shape.
+#![tactic(auto)]
+
 ghost use Rattle.std.specs.Prelude.{◌≡◌, [], ◌∷◌, map, ◌+◌, ◌≤◌, ◌<◌, ◌^◌, length};
 ghost use Rattle.std.proofs.lemmas.List.Edits.{sets};
 ghost use Rattle.semantics.specs.Builtins.{signature, lookup, describe};

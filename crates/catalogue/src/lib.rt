@@ -1,4 +1,6 @@
 // The type catalogue (RULES 10.4, ask 12): enter, release and look up types in a lent store.
+#![tactic(auto)]
+
 mod find;
 mod form;
 mod layout;

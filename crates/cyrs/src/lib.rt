@@ -1,4 +1,6 @@
 // The calls as C has them.
+#![tactic(auto)]
+
 ghost use Rattle.std.specs.Prelude.{◌≡◌, ◌+◌, ◌≤◌, length};
 ghost use Rattle.std.proofs.Math.Seq.{slice};
 ghost use Rattle.semantics.specs.Calls.{sheet_call, unify_call};

@@ -1,5 +1,7 @@
 // Expressions by construct (the arms of `infer_expr`): a module for each construct says what it keeps before its first child, what it
 // does after a child, and its type and faults after the last. Which one serves a line is chosen in `infer`.
+#![tactic(auto)]
+
 mod call;
 mod case;
 mod comprehension;

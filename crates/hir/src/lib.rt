@@ -1,4 +1,6 @@
 // A sheet under a cursor: whether it is whole (refusals 3, 4 and 5).
+#![tactic(auto)]
+
 mod bind;
 mod valid;
 

@@ -1,4 +1,6 @@
 // The types of a sheet's expressions (infer.rs).
+#![tactic(auto)]
+
 mod statement;
 mod step;
 mod walk;

@@ -1,4 +1,6 @@
 // One line of a sheet under a cursor.
+#![tactic(auto)]
+
 mod field;
 mod in_place;
 mod known;

@@ -8,7 +8,7 @@ use native.Mathlib.Omega.{arith}
 use lib.Dec.{eqb}
 use lib.ListN.{length, take, drop, get_or, length-drop, length-append}
 use borrow.Author.Tests.{eqb-true, eqb-false, ltb-false}
-use Rattle.bytes.specs.Bytes.{index_of}
+use Rattle.text.specs.Text.{index_of}
 use Rattle.semantics.specs.Bytes.{Bytes, hex}
 use Rattle.semantics.specs.Ty.{Base, t_unknown, Ty, base, t_list, t_map, t_node, t_relationship, t_union, Tys, ∅, ◌⊕◌, Fields, ∅ᶠ, field, names, letter, name_to, line_to, fields_to, members_to, line, nesting, nesting_s, nesting_f, too_large, inserts, opened, gather, joined, unite, set_field, members, pack, base_in}
 use Rattle.semantics.specs.Limits.{type_limit}

@@ -1,4 +1,6 @@
 // Old type lines made regular: the reader of the loose form, and the regular line of what it accepts.
+#![tactic(auto)]
+
 mod call;
 mod labels;
 mod making;

@@ -1,5 +1,7 @@
 // Old type lines made regular (RULES 10.3, ask 11): the definition is specs/Old.antt, what is claimed of it specs/Claims.antt; this function
 // promises the claims.
+#![tactic(auto)]
+
 ghost use Rattle.old_lines.specs.Claims.{RegularLines};
 
 // The place of the claims about `regular_call`.

@@ -1,4 +1,6 @@
 // Operators and IN: the ends of expressions over two operands, and what is required of an operand.
+#![tactic(auto)]
+
 mod membership;
 mod operators;
 

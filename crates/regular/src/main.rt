@@ -1,5 +1,7 @@
 // Makes the old type line on standard input regular: writes the regular line, or `refused,NUMBER,PLACE`, and LF. One LF behind the old line
 // ends it and is no part of it.
+#![tactic(auto)]
+
 ghost use Rattle.std.specs.Prelude.{◌≤◌, length};
 
 use libc::{STDIN_FILENO, STDOUT_FILENO};

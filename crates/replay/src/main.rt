@@ -1,4 +1,6 @@
 // Replays the stored calls of harness/vectors, sheets, pairs and old type lines, from standard input, and writes one line of counts.
+#![tactic(auto)]
+
 ghost use Rattle.std.specs.Prelude.{◌≡◌, ◌<◌, ◌≤◌, length, replicate};
 ghost use Rattle.semantics.specs.Calls.{sheet_call, unify_call};
 ghost use Rattle.old_lines.specs.Old.{regular_call};

@@ -1,4 +1,6 @@
 // Replays the stored calls of harness/vectors/stores.txt from standard input, and writes one line of counts.
+#![tactic(auto)]
+
 ghost use Rattle.std.specs.Prelude.{◌≡◌, ◌<◌, ◌≤◌, true, length};
 ghost use Rattle.stores.specs.Catalogue.{store_call, entering, releasing, looking_up};
 ghost use Rattle.catalogue.specs.Stands.{looked_as};

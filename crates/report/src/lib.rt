@@ -1,4 +1,6 @@
 // The lines of the report, each written by `writer::line`: appended to the output, what fits written, all counted (RULES 6).
+#![tactic(auto)]
+
 ghost use Rattle.std.specs.Prelude.{◌≡◌, [], ◌∷◌, ◌+◌, ◌<◌, ◌^◌, length};
 ghost use Rattle.semantics.specs.Bytes.{text};
 ghost use Rattle.semantics.specs.Ty.{Ty, line};

@@ -1,4 +1,6 @@
 // The limits of RULES 2.2, 2.10, 4.6 and 7.2, for the code: each constant is the limit that the definitions name, and a function says so.
+#![tactic(auto)]
+
 mod refusals;
 
 ghost use Rattle.std.specs.Prelude.{◌≡◌};

@@ -1,4 +1,6 @@
 // Byte texts: compare, copy and rotate parts, append past the end, clear, decimal and hexadecimal digits, the ends of fields.
+#![tactic(auto)]
+
 mod decimals;
 
 ghost use Rattle.std.specs.Prelude.{◌≡◌, ◌⊎◌, ◌++◌, map, ◌+◌, ◌*◌, ◌≤◌, ◌<◌, ◌^◌, length, take, drop, get_or, set, replicate};
@@ -157,9 +159,9 @@ fn rotate_turning(s: &mut [u8], a: usize, m: usize, e: usize)
     requires { (a ≤ m) × (m ≤ e) × (e ≤ length s.old) }
     ensures { s.new ≡ rotated a m e s.old }
 {
-    bytes::reverse(s, a, m);
-    bytes::reverse(s, m, e);
-    bytes::reverse(s, a, e);
+    s[a..m].reverse();
+    s[m..e].reverse();
+    s[a..e].reverse();
 }
 
 // Exchanges [a..m) and [m..e).
@@ -383,7 +385,14 @@ pub fn seek(s: &[u8], at: usize, b: u8) -> usize
     requires { at ≤ length s.now }
     ensures { Ends b s.now at result }
 {
-    bytes::scan::find(s, at, s.len(), b)
+    let mut i = at;
+    while i < s.len() {
+        if s[i] == b {
+            return i;
+        }
+        i += 1;
+    }
+    i
 }
 
 // Where the field at `at` ends: its comma, or the end of the slice.

@@ -26,7 +26,7 @@ use Rattle.ty.specs.Entry.{MapFront, Goes, Fronted, inserted_at, replaced_at, Fr
 use Rattle.ty.specs.declared.Grown.{Grown}
 use Rattle.ty.specs.declared.Grown.TheVariants.{Len, TooLarge}
 use Rattle.ty.specs.declared.map.Spot.TheVariants.{New, Old}
-use Rattle.bytes.specs.Bytes.{index_of}
+use Rattle.text.specs.Text.{index_of}
 use Rattle.text.proofs.Words.{ends}
 use Rattle.ty.specs.Keys.{NameBelow}
 use Rattle.ty.specs.Skip.{next_field}

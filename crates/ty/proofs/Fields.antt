@@ -11,7 +11,7 @@ use lib.Dec.{eqb, ltb}
 use lib.ListN.{length, drop, get_or, length-drop, get_or-eq_default}
 use lib.Seq.{slice, drop-cons}
 use borrow.Author.Tests.{eqb-true, ltb-true, ltb-false, eq-eqb, ne_eqb, lt-ltb}
-use Rattle.bytes.specs.Bytes.{index_of}
+use Rattle.text.specs.Text.{index_of}
 use Rattle.text.specs.Text.{is_found}
 use Rattle.text.proofs.Laws.{drop-join}
 use Rattle.text.proofs.Words.{index-mark}

@@ -10,7 +10,7 @@ use lib.Dec.{eqb, ltb}
 use lib.ListN.{length, take, drop, length-append}
 use lib.Seq.{take_all}
 use borrow.Author.Tests.{ne_eqb, ltb-true, ltb-false, lt-ltb}
-use Rattle.bytes.specs.Bytes.{index_of}
+use Rattle.text.specs.Text.{index_of}
 use Rattle.semantics.specs.Bytes.{Bytes, hex}
 use Rattle.semantics.specs.Ty.{Base, t_any, t_null, t_bool, t_int, t_float, t_num, t_string, t_date, t_datetime, t_path, t_unknown, Ty, base, t_list, t_map, t_node, t_relationship, t_union, Tys, ∅, ◌⊕◌, Fields, ∅ᶠ, field, letter, name_to, names_to, labels_to, rel_to, line_to, members_to, fields_to, line, nesting, nesting_s, nesting_f}
 use Rattle.semantics.proofs.Order.{hex-low}

@@ -10,7 +10,7 @@ use borrow.Author.Tests.{ltb-true, ltb-false}
 use lib.Dec.{eqb, ltb}
 use lib.ListN.{length, take, drop, get_or, length-drop, length-append, length-map}
 use lib.Seq.{slice, get_or-drop, drop-drop}
-use Rattle.bytes.specs.Bytes.{index_of}
+use Rattle.text.specs.Text.{index_of}
 use Rattle.semantics.specs.Bytes.{Bytes, lex, hex}
 use Rattle.semantics.specs.Ty.{name_to}
 use Rattle.semantics.proofs.Order.{Less, ends, here, next, lex-lt, lex-gt, lex-eq, Tri, lt, eq, gt, tri, hex-low, head-eq}

@@ -10,7 +10,7 @@ use lib.ListN.{length, drop, get_or, length-drop, length-append}
 use lib.Seq.{drop-drop, get_or-drop}
 use borrow.Author.Tests.{eqb-true, eqb-false, ltb-true, ltb-false}
 use Rattle.text.proofs.Words.{index-mark, index-first}
-use Rattle.bytes.specs.Bytes.{index_of}
+use Rattle.text.specs.Text.{index_of}
 use Rattle.semantics.specs.Bytes.{Bytes, hex}
 use Rattle.semantics.specs.Ty.{name_to, rel_to, Ty, line_to, line}
 use Rattle.semantics.proofs.Order.{line-inj}

@@ -1,7 +1,7 @@
 -- Reading a type at a place of a text: what the contracts of the strict reader and of the nesting cite.
 use Rattle.std.specs.Prelude.{ℕ, ◌+◌, ◌≤◌, ◌<◌, min, ◌≡◌, Bool, true, false, cond, ◌&&◌, not, eqb, ltb, leb, length, drop, get_or}
 use Rattle.std.proofs.Math.Seq.{slice}
-use Rattle.bytes.specs.Bytes.{index_of}
+use Rattle.text.specs.Text.{index_of}
 use Rattle.text.specs.Text.{is_found}
 use Rattle.semantics.specs.Codes.{comma, close_mark, list_letter, map_letter, node_letter, relationship_letter, union_letter}
 use Rattle.semantics.specs.Bytes.{Bytes, lex}

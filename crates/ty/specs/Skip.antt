@@ -1,7 +1,7 @@
 -- Skipping a type by its brackets, field by field: K, L and O open one, `!` closes one, a relationship type is skipped whole.
 use Rattle.std.specs.Prelude.{ℕ, ◌+◌, ◌-◌, ◌≤◌, ◌<◌, ◌≡◌, Bool, true, false, cond, ◌||◌, ◌∷◌, eqb, ltb, length, drop, get_or}
 use Rattle.std.proofs.Math.Option.{Option}
-use Rattle.bytes.specs.Bytes.{index_of}
+use Rattle.text.specs.Text.{index_of}
 use Rattle.semantics.specs.Codes.{comma, close_mark, list_letter, map_letter, node_letter, relationship_letter, union_letter}
 use Rattle.semantics.specs.Bytes.{Bytes}
 use Rattle.semantics.specs.Ty.{rel_to}

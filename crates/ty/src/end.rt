@@ -1,7 +1,7 @@
 // Where a type ends, and how deep it is nested.
 ghost use Rattle.std.specs.Prelude.{◌≡◌, not, ◌+◌, ◌≤◌, ◌<◌, ◌^◌, length, drop, get_or};
 ghost use Rattle.semantics.specs.Codes.{comma};
-ghost use Rattle.bytes.specs.Bytes.{index_of};
+ghost use Rattle.text.specs.Text.{index_of};
 ghost use Rattle.ty.specs.Parts.{TypeFrom, EndsAt};
 ghost use Rattle.semantics.specs.Ty.{Ty, line, too_large};
 ghost use Rattle.ty.specs.Read.{field_at, letter_at, content_of, goes_in, value_at, NestingEnd};

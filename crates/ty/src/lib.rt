@@ -1,4 +1,6 @@
 // Type lines (ty.rs): where a type ends, its size, the strict reader, the running union, map entries, label sets, type names.
+#![tactic(auto)]
+
 mod end;
 mod keys;
 mod label_sets;

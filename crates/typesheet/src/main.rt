@@ -1,4 +1,6 @@
 // Types the sheet on standard input: writes its report, or `refused,NUMBER,PLACE` and LF.
+#![tactic(auto)]
+
 ghost use Rattle.std.specs.Prelude.{◌≡◌, ◌≤◌, length, take};
 ghost use Rattle.semantics.specs.Bytes.{text};
 ghost use Rattle.semantics.specs.Calls.{sheet_text};

@@ -1,5 +1,7 @@
 // A type catalogue in a file: typestore FILE enter LINE, FILE release N, FILE show N, FILE list.
 // The first word printed says what came of it (docs/DECISIONS.md, 66).
+#![tactic(auto)]
+
 mod answer;
 mod list;
 

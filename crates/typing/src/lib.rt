@@ -1,4 +1,6 @@
 // The calls that take a sheet: one types it, one only validates it.
+#![tactic(auto)]
+
 mod checking;
 
 ghost use Rattle.std.specs.Prelude.{◌≡◌, ◌≤◌, length};

@@ -1,4 +1,6 @@
 // Unification of type lines in a work area (unify.rs): operands below a mark, the answer from the mark on.
+#![tactic(auto)]
+
 mod arms;
 mod flat;
 mod frames;

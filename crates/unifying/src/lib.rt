@@ -1,4 +1,6 @@
 // The call that unifies two type lines.
+#![tactic(auto)]
+
 ghost use Rattle.std.specs.Prelude.{◌≡◌, length};
 ghost use Rattle.semantics.specs.Limits.{work_size};
 ghost use Rattle.semantics.specs.Calls.{unify_call};

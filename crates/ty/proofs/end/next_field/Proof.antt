@@ -4,7 +4,7 @@ use native.Mathlib.Omega.{arith}
 use mathlib.Core.Path.{ap}
 use lib.ListN.{drop}
 use borrow.Author.Rules.{rules}
-use Rattle.bytes.specs.Bytes.{index_of}
+use Rattle.text.specs.Text.{index_of}
 use Rattle.ty.proofs.Skips.{comma-on, comma-here}
 use Rattle.ty.proofs.end.next_field.Statement.{statement}
 use Rattle.ty.proofs.end.next_field.Tie as tie

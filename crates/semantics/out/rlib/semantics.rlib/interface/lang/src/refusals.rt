@@ -1,0 +1,14 @@
+# [ read_as = "7a8df771413a70c41d22a0cf2536aa8a7d84cb8ba466b78a059977b02f9a687a" ] pub const ACCEPTED : u32 = 0 ;
+# [ read_as = "30f879c84240e1b0b3b48d2daac3f72b408a696a9f741135c7dbe612b93eae19" ] pub const SHEET_TOO_LONG : u32 = 1 ;
+# [ read_as = "f6361547982c76177b27fe8888b57a20dad804ac6fcaca9eb862e87cc1e3fb0e" ] pub const WRONG_SIZE : u32 = 2 ;
+# [ read_as = "dddfd7c2bb7bf1e0bf1f500365e76cead57c1850845a4b7ed7b683ce29cda5dd" ] pub const BADLY_WRITTEN : u32 = 3 ;
+# [ read_as = "08fb86774efd8ff5e76a07ed81515dbd62af60b42d1ae5b6fef79e5b913661ef" ] pub const OUT_OF_RANGE : u32 = 4 ;
+# [ read_as = "5d4d71bfd6ff37538b289b9c21bebe809d78c5530e865dbebfcd499f475354ee" ] pub const TOO_DEEP : u32 = 5 ;
+# [ read_as = "bfbb4fb2963baf87bc4ae945e409f13edc0aecefc4c63515a1ab2128f4344049" ] pub const TYPE_TOO_LARGE : u32 = 6 ;
+# [ read_as = "c0dededc7bfaa7d72195443ad097558d8b4ea9c271e2e5c0691e48659be6988a" ] pub const OUTPUT_TOO_SHORT : u32 = 7 ;
+# [ read_as = "7134a42406878eacca27c7b0504120c6748fbe528940b50b5cb41f01744787c5" ] pub const NO_TYPE_LINE : u32 = 8 ;
+# [ read_as = "f82abc5c57153c18752ff8ec99bc9311961b97527b5f44047078875fa3c4bf3e" ] pub const MISMATCH : u32 = 9 ;
+# [ read_as = "8ec7b51d4400a6474c5724b9691f511874b4e7610ab79aa0b2707e656dae1fd7" ] pub const NO_OLD_LINE : u32 = 12 ;
+# [ read_as = "5bc43833ab7d7029d6ea75bd716e1502864ca0d7b2b2fda3d5506e5712b0707e" ] pub const STORE_FULL : u32 = 13 ;
+# [ read_as = "66517d1fb3f55e5024b706c6bbd868f1a3c17fccec28a1719f91f317a040c0cd" ] pub const COUNT_USED_UP : u32 = 14 ;
+# [ read_as = "7518546be0787a7130feb9accf0dcaa6c76e02686fa94499875915ec0619f89f" ] pub const NOT_LIVE : u32 = 15 ;

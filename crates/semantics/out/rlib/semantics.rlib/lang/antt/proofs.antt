@@ -1,0 +1,16 @@
+pub mod Run
+pub mod Cases
+pub mod Texts
+pub mod LimitCases
+pub mod Order
+pub mod All
+pub mod Words
+pub mod Regular
+pub mod Meetings
+pub mod RegularUnify
+pub mod RegularWalk
+pub mod Causes
+pub mod Fuel
+pub mod Named
+pub mod Split
+pub mod Reader

@@ -1,0 +1,12 @@
+pub mod Limits
+pub mod Codes
+pub mod Bytes
+pub mod Ty
+pub mod Unify
+pub mod Builtins
+pub mod Sheet
+pub mod Walk
+pub mod Calls
+pub mod All
+pub mod Named
+pub mod Regular
