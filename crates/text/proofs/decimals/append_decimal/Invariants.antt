@@ -1,0 +1,17 @@
+use borrow.Author.Rules.{rules}
+use native.Mathlib.Omega.{arith}
+use Prim.Native.Nat.{ℕ, suc, ◌+◌, ◌-◌, ◌/◌, ◌%◌, ◌≤◌, ◌<◌, ◌^◌}
+use mathlib.Core.Path.{◌≡◌, sym, ap, ap₂, subst, ◌∙◌}
+use lib.ListN.{length, set}
+use lib.Seq.{sets, length-sets}
+use Rattle.semantics.specs.Bytes.{Bytes, shown}
+use Rattle.text.specs.Text.{tens}
+use Rattle.text.proofs.Words.{shown-short}
+use Rattle.text.proofs.Tens.{tens-length, shown-first, next_power, tens-step, rest-low, one-digit, tens-end}
+use Rattle.text.proofs.decimals.append_decimal.Given as goal
+
+abbrev pub invariant-loop-i : goal.invariant-loop-i
+invariant-loop-i l = (l.i ≤ 19) × (l.m < 10 ^ (l.i + 1)) × (l.at + suc l.i ≡ l.fill + length (shown l.n)) × (sets l.out l.at (tens l.i l.m) ≡ sets l.initial.out l.fill (shown l.n))
+
+abbrev pub decreases-loop-i : goal.decreases-loop-i
+decreases-loop-i l = l.i

@@ -1,0 +1,14 @@
+use borrow.Author.Rules.{rules}
+use Prim.Native.Nat.{◌≤◌, ◌+◌, ◌-◌}
+use lib.Seq.{sets, slice}
+use lib.ListN.{length, drop}
+use Rattle.text.proofs.Laws.{slide-turn, slide-start, slide-done}
+use mathlib.Core.Path.{◌≡◌, ◌∙◌, sym}
+use native.Mathlib.Omega.{arith}
+use Rattle.text.proofs.slide_bytes.Given as goal
+
+abbrev pub invariant-loop-i : goal.invariant-loop-i
+invariant-loop-i l = (l.i ≤ l.len) × (length l.s ≡ length l.initial.s) × (l.s ≡ sets l.initial.s (l.to + l.i) (drop l.i (slice l.from (l.from + l.len) l.initial.s)))
+
+abbrev pub decreases-loop-i : goal.decreases-loop-i
+decreases-loop-i l = l.i
