@@ -1,2 +1,0 @@
-pub mod Loan
-pub mod Left
