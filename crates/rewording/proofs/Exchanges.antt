@@ -199,6 +199,7 @@ distinct-rest [] r d = d
 distinct-rest (n ∷ ns) r d = distinct-rest ns r d.1
 
 distinct_apart : {b : Bytes} (ms es : List Bytes) → Distinct (ms ++ (b ∷ es)) → Memᴰ b ms → ⊥
+distinct_apart [] es d i = elim i [ ]
 distinct_apart (m ∷ ms) es d (Memᴰ.head e) = d.0 (Memᴰ.append_right ms (Memᴰ.head (sym e)))
 distinct_apart (m ∷ ms) es d (Memᴰ.tail i) = distinct_apart ms es d.1 i
 

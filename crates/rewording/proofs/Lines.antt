@@ -38,7 +38,7 @@ clean-append (c ∷ a) b p q = clean-cons c (a ++ b) (ltb-true 10 c ((and-eq-tru
 
 name-clean : (t : Ty) → Clean (type_name t)
 unfolding clean type_name text
-name-clean (base b) = elim b [ t_any ↦ refl | t_null ↦ refl | t_bool ↦ refl | t_int ↦ refl | t_float ↦ refl | t_num ↦ refl | t_string ↦ refl | t_date ↦ refl | t_datetime ↦ refl | t_path ↦ refl | t_unknown ↦ refl ]
+name-clean (base b) = elim b as (λ k. Clean (type_name (base k))) [ t_any ↦ refl | t_null ↦ refl | t_bool ↦ refl | t_int ↦ refl | t_float ↦ refl | t_num ↦ refl | t_string ↦ refl | t_date ↦ refl | t_datetime ↦ refl | t_path ↦ refl | t_unknown ↦ refl ]
 name-clean (t_list t) = refl
 name-clean (t_map fs) = refl
 name-clean (t_node ls) = refl
@@ -77,7 +77,7 @@ fault-clean (fault_5012 b t p) =
 
 letter-high : (b : Base) → 10 < letter b
 unfolding letter
-letter-high b = elim b [ t_any ↦ omega arith | t_null ↦ omega arith | t_bool ↦ omega arith | t_int ↦ omega arith | t_float ↦ omega arith | t_num ↦ omega arith | t_string ↦ omega arith | t_date ↦ omega arith | t_datetime ↦ omega arith | t_path ↦ omega arith | t_unknown ↦ omega arith ]
+letter-high b = elim b as (λ k. 10 < letter k) [ t_any ↦ omega arith | t_null ↦ omega arith | t_bool ↦ omega arith | t_int ↦ omega arith | t_float ↦ omega arith | t_num ↦ omega arith | t_string ↦ omega arith | t_date ↦ omega arith | t_datetime ↦ omega arith | t_path ↦ omega arith | t_unknown ↦ omega arith ]
 
 name-to-clean : (n r : Bytes) → Clean r → Clean (name_to n r)
 unfolding name_to

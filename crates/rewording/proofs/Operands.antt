@@ -26,7 +26,7 @@ of5 unknown5 = base t_unknown
 
 numeric5 : (t : Ty) → (n : Num5) × (numeric t ≡ of5 n)
 unfolding numeric meets matches among letter
-numeric5 (base b) = elim b [
+numeric5 (base b) = elim b as (λ k. (n : Num5) × (numeric (base k) ≡ of5 n)) [
   | t_any ↦ (any5, refl)
   | t_null ↦ (unknown5, refl)
   | t_bool ↦ (unknown5, refl)

@@ -174,6 +174,7 @@ reports-outcome {s} {x} r = go r.work r.out (ltb sheet_limit (length s)) (eqb (l
 -- ## The claims
 
 top-canonical : {ts : List Top} → All RegularTop ts → (l : Bytes) → Memᴰ l (map_l (λ (t : Top). top_line t.ty) ts) → CanonicalLine l
+top-canonical empty l i = elim i [ ]
 top-canonical (also {x = t} p ps) l (Memᴰ.head e) = record { ty = t.ty; is = e; unions = λ us w. unions-canonical t.ty us w p }
 top-canonical (also p ps) l (Memᴰ.tail i) = top-canonical ps l i
 

@@ -23,6 +23,7 @@ mutual
   within-members (in-later-member w) r = within-members w r.2
 
 member-flat : {ms : List Ty} → All Member ms → (t : Ty) → Memᴰ t ms → is_union t ≡ false
+member-flat empty t i = elim i [ ]
 member-flat (also p ps) t (Memᴰ.head e) = ap is_union e ∙ p.0
 member-flat (also p ps) t (Memᴰ.tail i) = member-flat ps t i
 

@@ -134,8 +134,10 @@ pub both_true : {a b : Bool} → a ≡ true → b ≡ true → (a && b) ≡ true
 both_true p q = rw (p, q)
 
 pub read_back : (c : Catalogue) → Good c → read_store (stored c) ≡ some c
-unfolding read_store fine
+unfolding read_store
 read_back c g =
     let h = g.room in
     let f = both_true (eq-eqb (length (stored c)) store_size (store_long c h)) (store-zeros c) in
-    rw (f, store-last c g.last, store-rest c, read_live_lem store_size g.fit (let k = count-taken c.live in omega arith) (room_limit - taken c.live), g.live, fine, read_store)
+    let r : read_live store_size (drop 8 (stored c)) ≡ some c.live
+    = ap (read_live store_size) (store-rest c) ∙ read_live_lem store_size g.fit (let k = count-taken c.live in omega arith) (room_limit - taken c.live) in
+    rw (f, read_store) (ap₂ fine (store-last c g.last) r ∙ (unfold fine in rw (g.live, fine)))

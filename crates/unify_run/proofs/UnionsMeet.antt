@@ -209,7 +209,7 @@ data Kind : Ty → Type 0 where
 
 kind : (t : Ty) → Kind t
 unfolding matches among letter
-kind (base b) = elim b [ t_any ↦ any | t_null ↦ null | t_bool ↦ other refl refl refl | t_int ↦ other refl refl refl | t_float ↦ other refl refl refl | t_num ↦ other refl refl refl | t_string ↦ other refl refl refl | t_date ↦ other refl refl refl | t_datetime ↦ other refl refl refl | t_path ↦ other refl refl refl | t_unknown ↦ unknown ]
+kind (base b) = elim b as (λ k. Kind (base k)) [ t_any ↦ any | t_null ↦ null | t_bool ↦ other refl refl refl | t_int ↦ other refl refl refl | t_float ↦ other refl refl refl | t_num ↦ other refl refl refl | t_string ↦ other refl refl refl | t_date ↦ other refl refl refl | t_datetime ↦ other refl refl refl | t_path ↦ other refl refl refl | t_unknown ↦ unknown ]
 kind (t_list t) = other refl refl refl
 kind (t_map fs) = other refl refl refl
 kind (t_node ls) = other refl refl refl
@@ -235,7 +235,7 @@ arms-other rec o us p a u n = rw (a, u, not_equal o us p, n, arms) (pair-union r
 -- Any takes each variant as it is, and Unknown makes it Unknown
 arms-any : (rec : Ty → Ty → Unified) (v : Ty) → arms rec v (base t_any) ≡ gives [] v
 unfolding arms matches among letter
-arms-any rec (base b) = elim b [ t_any ↦ refl | t_null ↦ refl | t_bool ↦ refl | t_int ↦ refl | t_float ↦ refl | t_num ↦ refl | t_string ↦ refl | t_date ↦ refl | t_datetime ↦ refl | t_path ↦ refl | t_unknown ↦ refl ]
+arms-any rec (base b) = elim b as (λ k. arms rec (base k) (base t_any) ≡ gives [] (base k)) [ t_any ↦ refl | t_null ↦ refl | t_bool ↦ refl | t_int ↦ refl | t_float ↦ refl | t_num ↦ refl | t_string ↦ refl | t_date ↦ refl | t_datetime ↦ refl | t_path ↦ refl | t_unknown ↦ refl ]
 arms-any rec (t_list t) = refl
 arms-any rec (t_map fs) = refl
 arms-any rec (t_node ls) = refl
@@ -244,7 +244,7 @@ arms-any rec (t_union ts) = refl
 
 arms-unknown : (rec : Ty → Ty → Unified) (v : Ty) → arms rec v (base t_unknown) ≡ gives [] (base t_unknown)
 unfolding arms matches among letter
-arms-unknown rec (base b) = elim b [ t_any ↦ refl | t_null ↦ refl | t_bool ↦ refl | t_int ↦ refl | t_float ↦ refl | t_num ↦ refl | t_string ↦ refl | t_date ↦ refl | t_datetime ↦ refl | t_path ↦ refl | t_unknown ↦ refl ]
+arms-unknown rec (base b) = elim b as (λ k. arms rec (base k) (base t_unknown) ≡ gives [] (base t_unknown)) [ t_any ↦ refl | t_null ↦ refl | t_bool ↦ refl | t_int ↦ refl | t_float ↦ refl | t_num ↦ refl | t_string ↦ refl | t_date ↦ refl | t_datetime ↦ refl | t_path ↦ refl | t_unknown ↦ refl ]
 arms-unknown rec (t_list t) = refl
 arms-unknown rec (t_map fs) = refl
 arms-unknown rec (t_node ls) = refl
