@@ -14,7 +14,7 @@
  *
  * Stack. A call needs less than CYRS_STACK bytes of stack.
  *
- * Link libcyrs.a (`rt staticlib cyrs` writes it, for x86-64 Linux): cc program.c libcyrs.a.
+ * Link libcyrs.a (tools/archive.sh makes it, for x86-64 Linux): cc program.c libcyrs.a.
  */
 #ifndef CYRS_H
 #define CYRS_H

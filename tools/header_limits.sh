@@ -19,9 +19,9 @@ same COUNT_LIMIT COUNT_LIMIT semantics/src/lib.rt
 same DEPTH_LIMIT DEPTH_LIMIT semantics/src/lib.rt
 same TYPE_LIMIT TYPE_LIMIT semantics/src/lib.rt
 same NESTING_LIMIT NESTING_LIMIT semantics/src/lib.rt
-same OLD_LIMIT oldLimit old_lines/specs/Old.antt
+same OLD_LIMIT old_limit old_lines/specs/Old.antt
 same STORE_SIZE STORE_SIZE catalogue/src/layout.rt
-same STORE_ROOM roomLimit stores/specs/Catalogue.antt
+same STORE_ROOM room_limit stores/specs/Catalogue.antt
 same STORE_NUMBERS NUMBER_LIMIT catalogue/src/lib.rt
 same STORE_USES USES_LIMIT catalogue/src/lib.rt
 numbers() { sort -nu | tr '\n' ' '; }

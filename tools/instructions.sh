@@ -9,9 +9,9 @@ cd "$(dirname "$0")/.."
 missing() { echo "$1" >&2; exit 2; }
 command -v valgrind >/dev/null 2>&1 || missing "valgrind is missing: no instructions are counted"
 command -v cargo >/dev/null 2>&1 || missing "cargo is missing: no instructions are counted"
-[ -f target/staticlib/libcyrs.a ] || missing "target/staticlib/libcyrs.a is missing: rt staticlib cyrs makes it"
+[ -f crates/cyrs/out/libcyrs.a ] || missing "crates/cyrs/out/libcyrs.a is missing: tools/archive.sh makes it"
 wanted=${1:-.}
-export CYRS_LIB="$PWD/target/staticlib/libcyrs.a"
+export CYRS_LIB="$PWD/crates/cyrs/out/libcyrs.a"
 cd harness
 cargo build --release --offline --quiet
 program=${CARGO_TARGET_DIR:-target}/release/cyrs-harness

@@ -14,15 +14,18 @@ RANK = {name: int(n) for name, n in PLACES}
 WORDS = re.search(r"pub data Word : Type 0 where\n((?:  .* : Word\n)+)", SHEET).group(1).replace(": Word", "").split()
 FIELDS = {"variable": 7, "optional": 8, "name": 9, "alias": 10, "bound": 11, "letter": 12, "signed": 13, "float": 14, "count": 5, "range 1 1": 6}
 FIELDS |= {"upto 1": 1, "upto 2": 2, "upto 3": 3, "upto 19": 4}
-RULES = "varType element slice listing mapping calling operator unary casing membership comprehension".split()
+RULES = "var_type element slice listing mapping calling operator unary casing membership comprehension".split()
 RULE_NAMES = "CONSTANT VARIABLE ELEMENT SLICE LISTING MAPPING CALL OPERATOR UNARY CASING MEMBERSHIP COMPREHENSION SILENT ENTRY".split()
 LETTER_NAMES = "ANY NULL BOOL INT FLOAT NUM STRING DATE DATETIME LIST MAP NODE RELATIONSHIP PATH UNION UNKNOWN".split()
 SPECS = CRATES / "semantics" / "specs"
 CODES = dict(re.findall(r"^(\w+) = (\d+)$", (SPECS / "Codes.antt").read_text(), re.M))
-LETTERS = {base: CODES[code] for base, code in re.findall(r"^letter (t\w+) = (\w+)$", (SPECS / "Ty.antt").read_text(), re.M)}
+LETTERS = {base: CODES[code] for base, code in re.findall(r"^letter (t_\w+) = (\w+)$", (SPECS / "Ty.antt").read_text(), re.M)}
 changed = []
 # up to the end of a file
 END = ""
+EXPRESSION = "expression_place"
+# rt fmt: the longest line of a list in braces
+WIDTH = 99
 
 
 def group(place, least, per, bit):
@@ -30,14 +33,14 @@ def group(place, least, per, bit):
 
 
 def place(role):
-    return role.split()[1] if role.startswith("inner") else "AtExpression"
+    return role.split()[1] if role.startswith("inner") else EXPRESSION
 
 
 def shape(text):
     """Slots and the two groups of a shape."""
     m = re.fullmatch(r"(\w+)(?: (\d+))?(?: \(?(inner \w+|plain|condition|answer)\)?)?(?: (\d+))?", text)
     kind, i, role, j = m.group(1), m.group(2), m.group(3), m.group(4)
-    e = "AtExpression"
+    e = EXPRESSION
     if kind == "nothing":
         return 63, 0, 0
     if kind == "two":
@@ -50,15 +53,15 @@ def shape(text):
         return 63, group(place(role), 1, 0, 0), 0
     if kind == "times":
         return 7 + 8 * int(i), group(place(role), 0, 1, 0), 0
-    if kind == "timesThen":
+    if kind == "times_then":
         return int(j) + 8 * int(i), group(place(role), 0, 1, 0), group(e, 0, 0, 1)
     if kind == "around":
         if role.startswith("inner"):
             return int(j) + 56, group(place(role), 1, 0, 0), group(e, 1, 0, 1)
         return int(j) + 56, group(e, 2, 0, 1), 0
-    if kind == "oneThen":
+    if kind == "one_then":
         return int(i) + 56, group(e, 1, 0, 1), 0
-    if kind == "oneTimes":
+    if kind == "one_times":
         return 7 + 8 * int(i), group(e, 1, 0, 0), group(place(role), 0, 1, 0)
     raise ValueError(text)
 
@@ -79,7 +82,7 @@ def read_rows():
     for word, kind, rest in re.findall(r"^row (\w+) = (line|expr) (.*)$", SHEET, re.M):
         p = parts(rest)
         if kind == "expr":
-            p.insert(1, "AtExpression")
+            p.insert(1, EXPRESSION)
         spelled, where, fields, under, by = p
         names = [] if fields == "[]" else [f.strip() for f in fields.split("∷")[:-1]]
         shapes = len(names) + sum(FIELDS[f] * 32 ** (i + 1) for i, f in enumerate(names))
@@ -98,6 +101,9 @@ def read_rows():
 
 ROWS = read_rows()
 NUMBER = {word: i for i, word in enumerate(WORDS, 1)}
+# the constants of the code
+CONSTANT = {word: word.removesuffix("_word").upper() for word in WORDS}
+PLACE = {name: "AT_" + name.removesuffix("_place").upper() for name, _ in PLACES}
 LISTED = re.search(r"\nwords =\n((?:    .*\n)+)", SHEET).group(1).replace("∷", " ").replace("[]", " ").split()
 assert sorted(LISTED) == sorted(WORDS)
 
@@ -125,6 +131,20 @@ def named(pairs):
     return "".join(f"        {key} => {value},\n" for key, value in pairs)
 
 
+def constants(pairs):
+    return "\n".join(f"pub const {name}: usize = {n};\n" for name, n in pairs)
+
+
+def exported(module, names):
+    """A `pub use` of these, as rt fmt lays it out."""
+    lines = [""]
+    for name in sorted(names):
+        if len("    " + lines[-1] + name + ",") > WIDTH:
+            lines.append("")
+        lines[-1] += name + ", "
+    return f"pub use {module}::{{\n" + "".join(f"    {line.rstrip()}\n" for line in lines) + "};\n"
+
+
 def arms(pairs):
     return "".join(f"        {key} => {value}, // {name}\n" for key, value, name in pairs)
 
@@ -133,7 +153,7 @@ def proof(module, head, uses, opened, arm, count, last, before=""):
     name = module.split(".")[-1]
     spec = name.replace("_", "-") + "-spec"
     crate = module.split(".")[0]
-    inner = f"Rattle·{crate}·proofs.proofs." + ".".join(module.split(".")[1:])
+    inner = f"Rattle.{crate}.proofs." + ".".join(module.split(".")[1:])
     each = "".join(f"\n    ({arm.format(i)})" for i in range(1, count + 1))
     text = f"""-- `{name}`: {head} Made by tools/line_table.py. Assumes nothing.
 {uses}use {inner}.Statement.{{statement}}
@@ -153,56 +173,54 @@ def main():
     names = ", ".join(WORDS)
     every = [ROWS[w] for w in WORDS]
     # the words by number, and that each is listed
-    put("semantics/proofs/Words.antt", ("Sheet.{Word, ", ", words, wordIn", names), ("    elim v [ ", " ]\n", " | ".join(f"{w} ↦ refl" for w in WORDS)))
-    numbers = "".join(f"wordNo {w} = {i}\n" for w, i in NUMBER.items())
-    put("line/specs/Rows.antt", ("Sheet.{Word, ", ", row, words", names) if ", row, words" in (CRATES / "line/specs/Rows.antt").read_text() else ("Sheet.{Word, ", ", row}", names),
-        ("wordNo : Word → ℕ\n", "\n-- the words by their numbers", numbers), ("numbered =\n    ", " ∷ []", " ∷ ".join(WORDS)))
+    put("semantics/proofs/Words.antt", ("Sheet.{Word, ", ", words, word_in", names), ("    elim v as (λ w. word_in (text (row w).spelled) words ≡ some w) [ ", " ]\n", " | ".join(f"{w} ↦ refl" for w in WORDS)))
+    numbers = "".join(f"word_no {w} = {i}\n" for w, i in NUMBER.items())
+    put("line/specs/Rows.antt", ("Sheet.{Word, ", ", row, words", names),
+        ("word_no : Word → ℕ\n", "\n-- the words by their numbers", numbers), ("numbered =\n    ", " ∷ []", " ∷ ".join(WORDS)))
     # packed rows
     fields = [63] + [r["fields"] for r in every]
     kids = [14] + [r["kids"] for r in every]
-    put("line/specs/Arrays.antt", ("\nfieldRows = ", " ∷ []\n", " ∷ ".join(map(str, fields))), ("\nkidRows = ", " ∷ []\n", " ∷ ".join(map(str, kids))))
+    put("line/specs/Arrays.antt", ("\nfield_rows = ", " ∷ []\n", " ∷ ".join(map(str, fields))), ("\nkid_rows = ", " ∷ []\n", " ∷ ".join(map(str, kids))))
     shown = ["-"] + [r["spelled"] for r in every]
     codes = [(ROWS[w]["code"], NUMBER[w], ROWS[w]["spelled"]) for w in reversed(LISTED)]
     whole = [(ROWS[w]["code"], NUMBER[w] + 64 * ROWS[w]["fields"], ROWS[w]["spelled"]) for w in reversed(LISTED)]
     put("line/src/table.rt", ("    match code {\n", "        _ => 0", arms(codes)),
-        ("pub fn row_of(code: u64) -> u64\n    ensures { λ r. ⌜ r ≡ rowIn code words ⌝ }\n{\n    match code {\n", f"        _ => {64 * fields[0]}", arms(whole)),
-        ("fn fields_row(word: usize) -> u64\n    ensures { λ r. ⌜ r ≡ getD fieldRows word 0 ⌝ }\n{\n    match word {\n", "        _ => 0", arms(zip(range(len(fields)), fields, shown))),
-        ("fn kids_row(word: usize) -> usize\n    ensures { λ r. ⌜ r ≡ getD kidRows word 0 ⌝ }\n{\n    match word {\n", "        _ => 0", arms(zip(range(len(kids)), kids, shown))))
-    for name, listed in (("fields_row", "fieldRows"), ("kids_row", "kidRows")):
+        ("pub fn row_of(code: u64) -> u64\n    ensures { result ≡ row_in code words }\n{\n    match code {\n", f"        _ => {64 * fields[0]}", arms(whole)),
+        ("fn fields_row(word: usize) -> u64\n    ensures { result ≡ get_or field_rows word 0 }\n{\n    match word {\n", "        _ => 0", arms(zip(range(len(fields)), fields, shown))),
+        ("fn kids_row(word: usize) -> usize\n    ensures { result ≡ get_or kid_rows word 0 }\n{\n    match word {\n", "        _ => 0", arms(zip(range(len(kids)), kids, shown))))
+    for name, listed in (("fields_row", "field_rows"), ("kids_row", "kid_rows")):
         proof(f"line.table.{name}", "an arm's number stands in the list; behind the arms the list has ended.",
-              f"use Rattle·line·specs.specs.Arrays.{{{listed}}}\nuse Rattle·line·proofs.proofs.Tables.{{past-end}}\n", listed,
-              "λ c. rw (c .match .keys{})", len(fields), f"(λ c. past-end {listed} _ (c .match .rest))")
+              f"use Rattle.line.specs.Arrays.{{{listed}}}\nuse Rattle.line.proofs.Tables.{{past_end}}\n", listed,
+              "λ c. rw c.match.keys{}", len(fields), f"(λ c. past_end {listed} _ c.match.rest)")
     proof("line.table.word_of", "an arm's number is the word's; where no arm is met no word is.",
-          "use Rattle·line·specs.specs.Rows.{wordNo, codeFrom, numberIn}\nuse Rattle·line·proofs.proofs.Words.{none-met}\n"
-          "use Rattle·semantics.specs.Bytes.{text}\nuse Rattle·semantics.specs.Sheet.{row, words}\n", "numberIn wordNo codeFrom text row",
-          "λ c. rw (c .match .keys{})", len(WORDS), "rest",
-          f"rest : tie.Need-returns-{len(WORDS) + 1}\nunfolding codeFrom text row\nrest c = none-met _ words (c .match .rest)\n\n")
+          "use Rattle.line.specs.Rows.{word_no, code_from, number_in}\nuse Rattle.line.proofs.Words.{none-met}\n"
+          "use Rattle.semantics.specs.Bytes.{text}\nuse Rattle.semantics.specs.Sheet.{row, words}\n", "number_in word_no code_from text row",
+          "λ c. rw c.match.keys{}", len(WORDS), "rest",
+          f"rest : tie.Need-returns-{len(WORDS) + 1}\nunfolding code_from text row\nrest c = none-met _ words c.match.rest\n\n")
     proof("line.table.row_of", "an arm's number is the word's, and its row above it; where no arm is met no word is.",
-          "use mathlib.Core.Path.{refl, ap}\nuse Prim.Native.Nat.{ℕ, _+_, _*_}\nuse lib.ListN.{getD}\nuse Rattle·line·specs.specs.Arrays.{fieldRows}\n"
-          "use Rattle·line·specs.specs.Rows.{wordNo, codeFrom, numberIn}\nuse Rattle·line·proofs.proofs.Words.{none-met}\n"
-          "use Rattle·semantics.specs.Bytes.{text}\nuse Rattle·semantics.specs.Sheet.{row, words}\n", "numberIn wordNo codeFrom text row fieldRows",
-          "λ c. rw (c .match .keys{})", len(WORDS), "rest",
-          f"rest : tie.Need-returns-{len(WORDS) + 1}\nunfolding codeFrom text row fieldRows\nrest c = ap (λ (n : ℕ). n + 64 * getD fieldRows n 0) (none-met _ words (c .match .rest))\n\n")
+          "use mathlib.Core.Path.{refl, ap}\nuse Prim.Native.Nat.{ℕ, ◌+◌, ◌*◌}\nuse lib.ListN.{get_or}\nuse Rattle.line.specs.Arrays.{field_rows}\n"
+          "use Rattle.line.specs.Rows.{word_no, code_from, number_in}\nuse Rattle.line.proofs.Words.{none-met}\n"
+          "use Rattle.semantics.specs.Bytes.{text}\nuse Rattle.semantics.specs.Sheet.{row, words}\n", "number_in word_no code_from text row field_rows",
+          "λ c. rw c.match.keys{}", len(WORDS), "rest",
+          f"rest : tie.Need-returns-{len(WORDS) + 1}\nunfolding code_from text row field_rows\nrest c = ap (λ (n : ℕ). n + 64 * get_or field_rows n 0) (none-met _ words c.match.rest)\n\n")
     # rules and constant letters: the words that have a type stand together
     typed = [i for i, r in enumerate(every, 1) if r["rule"] != 12]
     span = range(typed[0], typed[-1] + 1)
     table = [every[i - 1] for i in span]
-    put("line/src/word_numbers.rt", ("by tools/line_table.py.\n", END, "".join(f"pub const {w}: usize = {i};\n\n" for w, i in NUMBER.items()).rstrip("\n") + "\n"))
-    snake = [(re.sub(r"(?<!^)(?=[A-Z])", "_", name).upper(), n) for name, n in PLACES]
-    put("line/src/places.rt", ("by tools/line_table.py.\n", END, "".join(f"pub const {name}: usize = {n};\n\n" for name, n in snake).rstrip("\n") + "\n"))
-    exported = [("places", name) for name, _ in snake] + [("word_numbers", w) for w in WORDS]
-    put("line/src/lib.rt", ("by tools/line_table.py.\n", END, "".join(f"pub use {module}::{name};\n" for module, name in sorted(exported))))
-    put("exprs/src/rule.rt", ("    match word {\n", "        _ => SILENT", named((f"line::{w}", RULE_NAMES[ROWS[w]["rule"]]) for w in WORDS[span[0] - 1:span[-1]])))
-    put("exprs/src/leaf.rt", ("fn letter_of(word: usize) -> u8\n    ensures { λ r. ⌜ LetterBy word r ⌝ }\n{\n    match word {\n", "        _ => ty::UNKNOWN", named((f"line::{w}", f"ty::{LETTER_NAMES[ROWS[w]['letter'] - 65]}") for w in WORDS[span[0] - 1:span[-1]])))
-    put("exprs/proofs/RoleLaws.antt", ("typedFrom = ", "\n", str(span[0])), ("typedMany = ", "\n", str(len(span))))
+    put("line/src/word_numbers.rt", ("by tools/line_table.py.\n", END, constants((CONSTANT[w], i) for w, i in NUMBER.items())))
+    put("line/src/places.rt", ("by tools/line_table.py.\n", END, constants((PLACE[name], n) for name, n in PLACES)))
+    put("line/src/lib.rt", ("by tools/line_table.py.\n", END, exported("places", PLACE.values()) + exported("word_numbers", CONSTANT.values())))
+    put("exprs/src/rule.rt", ("    match word {\n", "        _ => SILENT", named((f"line::{CONSTANT[w]}", RULE_NAMES[ROWS[w]["rule"]]) for w in WORDS[span[0] - 1:span[-1]])))
+    put("exprs/src/leaf.rt", ("fn letter_of(word: usize) -> u8\n    ensures { LetterBy word result }\n{\n    match word {\n", "        _ => ty::UNKNOWN", named((f"line::{CONSTANT[w]}", f"ty::{LETTER_NAMES[ROWS[w]['letter'] - 65]}") for w in WORDS[span[0] - 1:span[-1]])))
+    put("exprs/proofs/RoleLaws.antt", ("typed_from = ", "\n", str(span[0])), ("typed_many = ", "\n", str(len(span))))
     proof("exprs.rule.rule_of", "an arm's number is the rule of its word; behind the arms no word has one.",
-          "use mathlib.Core.Path.{refl}\nuse Rattle·semantics.specs.Sheet.{row}\nuse Rattle·line.specs.Rows.{numbered}\nuse Rattle·exprs·specs.specs.Rules.{typingNo, ruleNo}\n"
-          "use Rattle·exprs·proofs.proofs.RoleLaws.{rules, arm-rule, rest-rule}\n", "rules numbered row ruleNo typingNo",
-          "λ c v e. arm-rule _ _ _ refl (c .match .keys{}) v e", len(span), "(λ c v e. rest-rule v (rw e at (c .match .rest)))")
+          "use mathlib.Core.Path.{refl}\nuse Rattle.semantics.specs.Sheet.{row}\nuse Rattle.line.specs.Rows.{numbered}\nuse Rattle.exprs.specs.Rules.{typing_no, rule_no}\n"
+          "use Rattle.exprs.proofs.RoleLaws.{rules, arm-rule, rest-rule}\n", "rules numbered row rule_no typing_no",
+          "λ c v e. arm-rule _ _ _ refl c.match.keys{} v e", len(span), "(λ c v e. rest-rule v (rw e at c.match.rest))")
     proof("exprs.leaf.letter_of", "an arm's letter is that of its word's constant; behind the arms there is none.",
-          "use mathlib.Core.Path.{refl}\nuse Rattle·semantics.specs.Ty.{letter, line, lineTo, fieldsTo}\nuse Rattle·semantics.specs.Sheet.{row}\nuse Rattle·line.specs.Rows.{numbered}\n"
-          "use Rattle·exprs·proofs.proofs.LeafLaws.{letters, constantLine, arm-letter, rest-letter}\n", "letters constantLine numbered row line lineTo fieldsTo letter",
-          "λ c. arm-letter _ _ _ refl (c .match .keys{})", len(span), "(λ c. rest-letter 80 _ (c .match .rest))")
+          "use mathlib.Core.Path.{refl}\nuse Rattle.semantics.specs.Ty.{letter, line, line_to, fields_to}\nuse Rattle.semantics.specs.Sheet.{row}\nuse Rattle.line.specs.Rows.{numbered}\n"
+          "use Rattle.exprs.proofs.LeafLaws.{letters, constant_line, arm-letter, rest-letter}\n", "letters constant_line numbered row line line_to fields_to letter",
+          "λ c. arm-letter _ _ _ refl c.match.keys{}", len(span), "(λ c. rest-letter 80 _ c.match.rest)")
     for name in changed:
         print("differs" if CHECK else "written", name)
     if CHECK and changed:

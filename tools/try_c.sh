@@ -1,15 +1,15 @@
 #!/bin/sh
 # try_c.sh: the library from C: the header by itself, its limits, each call, the stack that they take, and examples/c/typesheet.c on
-# README's sheet. Needs target/staticlib/libcyrs.a (`rt staticlib cyrs`).
+# README's sheet. Needs crates/cyrs/out/libcyrs.a (tools/archive.sh).
 # Exit status 0: as expected, or there is no C compiler, which it says; 1: a difference, which it names; 2: there is no library.
 set -eu
 cd "$(dirname "$0")/.."
-library=target/staticlib/libcyrs.a
+library=crates/cyrs/out/libcyrs.a
 c=${CC:-cc}
 cpp=${CXX:-c++}
 there() { command -v "$1" >/dev/null 2>&1; }
 there "$c" || { echo "no C compiler here: the library is not tried from C"; exit 0; }
-[ -f "$library" ] || { echo "$library is missing: rt staticlib cyrs makes it" >&2; exit 2; }
+[ -f "$library" ] || { echo "$library is missing: tools/archive.sh makes it" >&2; exit 2; }
 room=$(mktemp -d)
 trap 'rm -rf "$room"' EXIT
 

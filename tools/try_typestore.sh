@@ -1,10 +1,10 @@
 #!/bin/sh
-# try_typestore.sh: runs target/bin/typestore on a file of its own, call by call, and compares what it prints and leaves.
+# try_typestore.sh: runs crates/typestore/out/typestore on a file of its own, call by call, and compares what it prints and leaves.
 # Exit status 0: as expected; 1: a difference, which it names; 2: there is no program to try.
 set -eu
 cd "$(dirname "$0")/.."
-program=$PWD/target/bin/typestore
-[ -x "$program" ] || { echo "target/bin/typestore is missing: rt check typestore makes it" >&2; exit 2; }
+program=$PWD/crates/typestore/out/typestore
+[ -x "$program" ] || { echo "crates/typestore/out/typestore is missing: rt run in crates/typestore makes it" >&2; exit 2; }
 room=$(mktemp -d)
 trap 'rm -rf "$room"' EXIT
 cd "$room"

@@ -1,4 +1,4 @@
-//! Links the archive that CYRS_LIB names (`rt staticlib cyrs` writes target/staticlib/libcyrs.a). Without it the build fails, unless
+//! Links the archive that CYRS_LIB names (tools/archive.sh makes crates/cyrs/out/libcyrs.a). Without it the build fails, unless
 //! the feature `library-optional` is on: then the crate has no calls.
 
 use std::env;
@@ -11,7 +11,7 @@ fn main() {
     match env::var("CYRS_LIB") {
         Ok(archive) if !archive.is_empty() => link(Path::new(&archive)),
         _ if env::var_os("CARGO_FEATURE_LIBRARY_OPTIONAL").is_some() => {}
-        _ => fail("CYRS_LIB is not set: it names the archive libcyrs.a, which `rt staticlib cyrs` writes to target/staticlib"),
+        _ => fail("CYRS_LIB is not set: it names the archive libcyrs.a, which tools/archive.sh makes in crates/cyrs/out"),
     }
 }
 

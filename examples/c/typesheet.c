@@ -1,6 +1,6 @@
 /* typesheet [FILE]: types a statement sheet, read from FILE or from standard input, and prints its report.
  *
- *   cc -std=c99 -I include examples/c/typesheet.c target/staticlib/libcyrs.a -o typesheet
+ *   cc -std=c99 -I include examples/c/typesheet.c crates/cyrs/out/libcyrs.a -o typesheet
  *
  * Exit status 0: the report is printed. 1: the sheet is refused, and `refused,NUMBER,PLACE` is printed. 2: bad usage, or the sheet
  * cannot be read or the answer not written; standard error says which.
