@@ -86,12 +86,12 @@ fn read_fields(line: &[u8], from: usize, n: usize, shapes: u64, slots: usize) ->
 }
 
 // A line's number, from 1.
-#[derive(Drop)]
+#[derive(Clone, Copy)]
 pub struct HirId(pub u32);
 
 // A line: its word (0 for no whole line and for an unknown word), what is wrong with its fields (0, 3 or 4), where the next line
 // starts, and what the fields say. A name stands from `name` to `stop` in hexadecimal digits.
-#[derive(Drop)]
+#[derive(Clone, Copy)]
 pub struct Head {
     pub word: usize,
     pub why: u32,

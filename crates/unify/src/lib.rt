@@ -41,7 +41,7 @@ pub const LARGE: u8 = 4;
 // What is to be unified next, [v..ve) with [w..we), its answer from `at` on; and what is kept at the mark, n bytes: `J,`, the map so far
 // (0: over), or the running union. A map goes on at ve and we; a union with the outer types from p to pe and the variants from i to ie.
 // `kind` is the arm, `LISTS`, `MAPS` or `UNIONS`; `go` says what is next.
-#[derive(Drop)]
+#[derive(Clone, Copy)]
 pub struct Frame {
     pub kind: u8,
     pub go: u8,
