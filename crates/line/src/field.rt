@@ -23,7 +23,7 @@ const LAST_OPERATOR: u64 = 19;
 const MOST_SIGNED: u64 = 9223372036854775807;
 
 // A variable's number.
-#[derive(Drop)]
+#[derive(Clone, Copy)]
 pub struct VarId(pub u32);
 
 // A field as read: why is 0, 3 or 4; its number if it is one.
