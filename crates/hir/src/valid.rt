@@ -19,7 +19,7 @@ pub enum Check {
 }
 
 // What stands right below a line: so many lines of a class, and up to `all` of another.
-#[derive(Drop)]
+#[derive(Clone, Copy)]
 pub struct Kids {
     pub first: usize,
     pub all: usize,
