@@ -1,7 +1,7 @@
 -- The claim is not empty, computed from bytes: its premises hold of pairs with each of the three outcomes, and with unions its equation
 -- fails (RULES 9.2, case 13).
 use mathlib.Core.Path.{◌≡◌, refl, sym, ◌∙◌, ap}
-use mathlib.Core.List.{[], ◌∷◌, ◌++◌}
+use mathlib.Core.List.{◌++◌}
 use mathlib.Core.Option.{Option, none, some}
 use mathlib.Core.Bool.{Bool, true, false, false≢true}
 use Prim.Native.Nat.{ℕ}
@@ -9,7 +9,7 @@ use lib.ListN.{replicate, take}
 use Rattle.semantics.specs.Bytes.{Bytes, text, lex, same}
 use Rattle.semantics.specs.Ty.{t_bool, t_int, t_float, t_string, Ty, base, t_union, ∅, ◌⊕◌, type_line}
 use Rattle.semantics.specs.Calls.{Settled, cleared, answered, parted, unify_call}
-use Rattle.semantics.proofs.Run.{run, run_unify}
+use Rattle.semantics.proofs.Run.{run_unify}
 use Rattle.exchange.specs.Exchange.{union_free, exchanged, enough}
 
 -- the buffers that are lent

@@ -1,18 +1,18 @@
 -- Types that mean the same are made the same. Assumes nothing.
-use mathlib.Core.Path.{◌≡◌, refl, sym, ◌∙◌, ap, ap₂, subst}
+use mathlib.Core.Path.{◌≡◌, refl, sym, ◌∙◌, ap}
 use mathlib.Core.Logic.{inl, inr}
-use mathlib.Core.List.{List, [], ◌∷◌, ◌++◌, map}
+use mathlib.Core.List.{List, [], ◌∷◌, map}
 use mathlib.Core.Option.{Option, none, some}
 use mathlib.Core.Bool.{Bool, true, false, ◌&&◌, not, false≢true}
 use Rattle.semantics.specs.Bytes.{Bytes, same}
-use Rattle.semantics.specs.Ty.{t_unknown, Ty, base, t_list, t_map, t_node, t_relationship, t_union, Tys, ∅, ◌⊕◌, Fields, ∅ᶠ, field, names, insert, inserts, joined, set_field, get_field, insert_name, insert_names}
+use Rattle.semantics.specs.Ty.{Ty, base, t_list, t_map, t_node, t_relationship, t_union, Tys, ∅, ◌⊕◌, Fields, ∅ᶠ, field, names, insert, inserts, joined, set_field, get_field, insert_name, insert_names}
 use Rattle.semantics.proofs.All.{All, empty, also, all_append, all-weaken}
 use Rattle.semantics.proofs.Order.{Less, less-trans, Tri, lt, eq, gt, tri, same_refl, same-lt, same-gt, same-eq, insert-inserts, inserts-swap, set-lt, set-eq, set-gt}
-use Rattle.semantics.proofs.Regular.{Above, Ascends}
+use Rattle.semantics.proofs.Regular.{Ascends}
 use Rattle.unify_run.proofs.Gather.{insert-twice}
 use Rattle.unify_run.proofs.Labels.{name-twice, name-names}
 use Rattle.unify_run.proofs.Maps.{ascends-all}
-use Rattle.old_lines.specs.Old.{without, distinct, distinct_names, distinct_names_s, distinct_names_f, made_labels, made, made_s, made_f, or_unknown, choices, choices_s, In, Sub, Same, same-choices, Covers, no-choice, a-choice, Among, this, another, Like, bases, lists, maps, no-labels, labels, relationships, Entries, no-entry, an-entry, Holds, first, later}
+use Rattle.old_lines.specs.Old.{without, distinct, distinct_names, distinct_names_s, distinct_names_f, made_labels, made, made_f, or_unknown, choices, choices_s, In, Sub, Same, same-choices, Covers, no-choice, a-choice, Among, this, another, Like, bases, lists, maps, no-labels, labels, relationships, Entries, no-entry, an-entry, Holds, first, later}
 use Rattle.old_lines.proofs.Made.{made-entries, made-joined}
 
 -- ## Distinct names, all the way down

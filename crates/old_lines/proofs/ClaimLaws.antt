@@ -1,9 +1,9 @@
 -- The claims about the call. Assumes nothing.
 use mathlib.Core.Path.{◌≡◌, refl, sym, ◌∙◌, ap}
-use mathlib.Core.List.{List, [], ◌∷◌, ◌++◌}
+use mathlib.Core.List.{List, [], ◌∷◌}
 use mathlib.Core.Option.{Option, none, some}
 use mathlib.Core.Bool.{Bool, true, false, false≢true}
-use Prim.Native.Nat.{ℕ, ◌≤◌, Ordering}
+use Prim.Native.Nat.{◌≤◌, Ordering}
 use native.Mathlib.Omega.{arith}
 use lib.Dec.{eqb, ltb}
 use lib.ListN.{length, take, drop}
@@ -11,14 +11,14 @@ use lib.Seq.{take_at}
 use Rattle.semantics.specs.Limits.{work_size}
 use Rattle.semantics.specs.Bytes.{Bytes, lex}
 use Rattle.semantics.specs.Ty.{Ty, base, t_list, t_map, t_node, t_relationship, t_union, Tys, ∅, ◌⊕◌, Fields, ∅ᶠ, field, members, pack, line, order, too_large, insert, inserts, opened, gather, joined, unite, set_field, insert_name, insert_names, type_line}
-use Rattle.semantics.specs.Calls.{Settled, untouched, cleared, written, answered}
+use Rattle.semantics.specs.Calls.{Settled, untouched, cleared, answered}
 use Rattle.semantics.proofs.All.{All, empty, also}
 use Rattle.semantics.proofs.Named.{Name, Names, Maybe, Named, NamedS, NamedF}
 use Rattle.semantics.proofs.Order.{line_eq}
 use Rattle.semantics.proofs.Regular.{regular-true}
 use Rattle.semantics.proofs.Reader.{read-sound, reads-back}
 use Rattle.text.specs.Text.{is_found}
-use Rattle.old_lines.specs.Old.{old_output, old_line, made_labels, made, made_s, made_f, regular_of, regular_call, Same}
+use Rattle.old_lines.specs.Old.{old_output, old_line, made_labels, made, made_s, made_f, regular_of, regular_call}
 use Rattle.old_lines.specs.Claims.{MeanSame, Gives, RegularLines}
 use Rattle.old_lines.proofs.Alike.{some-eq}
 use Rattle.old_lines.proofs.Made.{made-regular}

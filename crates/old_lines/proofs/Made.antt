@@ -2,15 +2,13 @@
 use mathlib.Core.Path.{◌≡◌, refl, sym, ◌∙◌, ap, ap₂}
 use mathlib.Core.List.{List, [], ◌∷◌, ◌++◌, map}
 use mathlib.Core.Option.{Option, none, some}
-use mathlib.Core.Bool.{Bool, true, false}
-use Prim.Native.Nat.{◌≤◌}
+use mathlib.Core.Bool.{false}
 use native.Mathlib.Omega.{arith}
-use lib.ListN.{length}
 use Rattle.semantics.specs.Bytes.{Bytes}
-use Rattle.semantics.specs.Ty.{Base, t_unknown, Ty, base, t_list, t_map, t_node, t_relationship, t_union, Tys, ∅, ◌⊕◌, Fields, ∅ᶠ, field, members, names, line, insert, inserts, opened, gather, joined, unite, set_field, insert_name, insert_names, is_union}
+use Rattle.semantics.specs.Ty.{Ty, base, t_list, t_map, t_node, t_relationship, t_union, Tys, ∅, ◌⊕◌, Fields, ∅ᶠ, field, members, names, insert, inserts, opened, gather, joined, unite, set_field, insert_name, insert_names, is_union}
 use Rattle.semantics.proofs.All.{All, empty, also, all_append}
 use Rattle.semantics.proofs.Order.{Less, lex-lt, set-lt}
-use Rattle.semantics.proofs.Regular.{Above, Ascends, AscendingLabels, Regular, RegularS, RegularF, Member, names-ascend, unite-regular, no-entries, set-regular}
+use Rattle.semantics.proofs.Regular.{Above, Ascends, AscendingLabels, Regular, RegularS, RegularF, names-ascend, unite-regular, no-entries, set-regular}
 use Rattle.unify_run.proofs.Gather.{opened-unite}
 use Rattle.unify_run.proofs.UnionsMeet.{unite-members}
 use Rattle.unify_run.proofs.Labels.{name-names}

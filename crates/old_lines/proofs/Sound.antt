@@ -13,7 +13,7 @@ use Rattle.semantics.specs.Bytes.{Bytes, split}
 use Rattle.semantics.specs.Ty.{Ty, line, nesting, too_large, Front, read_type}
 use Rattle.semantics.proofs.Named.{Named, Maybe}
 use Rattle.semantics.proofs.Split.{split-inj, split-line, type_f}
-use Rattle.semantics.proofs.Reader.{Reads, reads, nothing, read-type, type-sound}
+use Rattle.semantics.proofs.Reader.{Reads, reads, read-type, type-sound}
 use Rattle.semantics.specs.Calls.{answered}
 use Rattle.old_lines.specs.Old.{old_limit, old_output, distinct_names, loose, old_line, made, regular_of, regular_call}
 use Rattle.old_lines.specs.Good.{Good}

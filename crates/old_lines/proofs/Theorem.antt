@@ -3,10 +3,10 @@ use mathlib.Core.Path.{◌≡◌, refl, sym, ◌∙◌, ap, subst}
 use mathlib.Core.List.{List, [], ◌∷◌}
 use mathlib.Core.Option.{Option, none, some}
 use mathlib.Core.Bool.{Bool, true, false, ◌&&◌, not, false≢true}
-use Prim.Native.Nat.{ℕ, ◌*◌, ◌≤◌}
+use Prim.Native.Nat.{◌*◌, ◌≤◌}
 use native.Mathlib.Omega.{arith}
 use lib.ListN.{length}
-use lib.Dec.{ltb, leb, eqb}
+use lib.Dec.{ltb, leb}
 use Rattle.semantics.specs.Bytes.{Bytes, split}
 use Rattle.semantics.specs.Ty.{Ty, base, t_list, t_map, t_node, t_relationship, t_union, Tys, ∅, ◌⊕◌, Fields, ∅ᶠ, field, names, line, nesting, regular, too_large, Front, read_type, strict, type_line}
 use Rattle.semantics.specs.Limits.{nesting_limit}
@@ -17,7 +17,7 @@ use Rattle.semantics.proofs.Regular.{Ascends, Regular, RegularS, RegularF, regul
 use Rattle.semantics.proofs.Reader.{read-sound}
 use Rattle.unify_run.proofs.Maps.{ascends-all}
 use Rattle.unify_run.proofs.Size.{small-sound}
-use Rattle.old_lines.specs.Old.{old_limit, without, distinct, distinct_names, distinct_names_s, distinct_names_f, loose, old_line, made, Same, OldLines}
+use Rattle.old_lines.specs.Old.{old_limit, without, distinct, distinct_names, distinct_names_s, distinct_names_f, loose, old_line, made, OldLines}
 use Rattle.old_lines.proofs.Alike.{Ok, first-true, some-eq, is_there, same-made}
 use Rattle.old_lines.proofs.Made.{made-same}
 use Rattle.old_lines.proofs.Told.{made_told}

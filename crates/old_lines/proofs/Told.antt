@@ -1,20 +1,20 @@
 -- Types that are made the same mean the same. Assumes nothing.
 use mathlib.Core.Path.{◌≡◌, refl, sym, ◌∙◌, ap, subst}
 use mathlib.Core.Logic.{◌⊎◌, inl, inr, ⊎_elim}
-use mathlib.Core.List.{List, [], ◌∷◌, ◌++◌, map}
+use mathlib.Core.List.{List, [], ◌∷◌, map}
 use mathlib.Core.Option.{Option, none, some}
 use mathlib.Core.Bool.{Bool, true, false, not, false≢true}
 use Prim.Native.Nat.{ℕ, ◌≤◌}
 use native.Mathlib.Omega.{arith}
 use lib.ListN.{length}
 use Rattle.semantics.specs.Bytes.{Bytes, same}
-use Rattle.semantics.specs.Ty.{Base, t_unknown, Ty, base, t_list, t_map, t_node, t_relationship, t_union, Tys, ∅, ◌⊕◌, Fields, ∅ᶠ, field, names, insert, inserts, opened, joined, unite, get_field, insert_name, insert_names, is_union}
+use Rattle.semantics.specs.Ty.{Base, t_unknown, Ty, base, t_list, t_map, t_node, t_relationship, t_union, Tys, ∅, ◌⊕◌, Fields, ∅ᶠ, field, names, insert, inserts, opened, get_field, insert_name, insert_names, is_union}
 use Rattle.semantics.proofs.All.{All, empty, also, all_append}
 use Rattle.semantics.proofs.Order.{TriTy, lt, eq, gt, tri_ty, Tri, tri, lex-lt, lex-gt, lex-eq, Less, insert-lt, insert-eq, insert-gt, same-eq, same_refl, same-lt, same-gt}
-use Rattle.semantics.proofs.Regular.{Regular, Member, inserts-sorted}
+use Rattle.semantics.proofs.Regular.{Member, inserts-sorted}
 use Rattle.unify_run.proofs.Gather.{opened-joined}
-use Rattle.old_lines.specs.Old.{without, distinct, distinct_names, distinct_names_s, distinct_names_f, made_labels, made, made_s, made_f, or_unknown, choices, choices_s, In, Sub, Same, same-choices, Covers, no-choice, a-choice, Among, this, another, Like, bases, lists, maps, no-labels, labels, relationships, Entries, no-entry, an-entry, Holds, first, later}
-use Rattle.old_lines.proofs.Made.{made-regular, made-joined, choices-some, Plain, choices-plain}
+use Rattle.old_lines.specs.Old.{without, distinct, distinct_names, distinct_names_s, distinct_names_f, made_labels, made, made_f, or_unknown, choices, choices_s, In, Sub, Same, same-choices, Covers, no-choice, a-choice, Among, this, another, Like, bases, lists, maps, no-labels, labels, relationships, Entries, no-entry, an-entry, Holds, first, later}
+use Rattle.old_lines.proofs.Made.{made-regular, made-joined, Plain, choices-plain}
 use Rattle.old_lines.proofs.Alike.{Ok, choices-ok, first-true, second-true, made_o, get-made, some-eq, get-here, get-past, get-nothing, is_there, map-ok, field-ok, list-ok}
 
 -- ## Members

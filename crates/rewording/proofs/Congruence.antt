@@ -1,6 +1,6 @@
 -- The walk takes alike lines to alike results, whole trees come to what they come to whatever follows, and groups of trees may be
 -- exchanged under a line where its step allows it.
-use mathlib.Core.Path.{◌≡◌, refl, sym, ◌∙◌, ap, subst}
+use mathlib.Core.Path.{◌≡◌, refl, ◌∙◌, ap, subst}
 use mathlib.Core.List.{List, [], ◌∷◌, ◌++◌}
 use mathlib.Core.Bool.{Bool, cond}
 use Prim.Native.Nat.{ℕ, suc, zero, ◌+◌, ◌≤◌, ◌-◌}

@@ -8,12 +8,12 @@ use mathlib.Core.Logic.{inl, inr}
 use Prim.Native.Nat.{ℕ, suc, zero, ◌+◌}
 use Prim.Native.String.{String}
 use native.Mathlib.Omega.{arith}
-use lib.ListN.{replicate, take}
+use lib.ListN.{replicate}
 use Rattle.semantics.specs.Bytes.{Bytes, text}
 use Rattle.semantics.specs.Sheet.{ret_word, pro_word, end_word, bool_word, int_word, str_word, var_word, bin_word, lis_word, map_word, key_word, case_word, exi_word, Head}
 use Rattle.semantics.specs.Calls.{refusal, outcome}
 use Rattle.semantics.proofs.Run.{run, run_sheet}
-use Rattle.rewording.specs.Reword.{mk, a_string, an_int, value, reworded, renumber, variables, with-variable, OneToOne, insert_binding, in_ascending_order, Whole, done, grown, no-entry, Distinct, operands, arms, entries, Reword, Chain, here, link, Reports, Agree, with_bindings}
+use Rattle.rewording.specs.Reword.{mk, a_string, value, reworded, renumber, variables, with-variable, OneToOne, insert_binding, in_ascending_order, Whole, done, grown, no-entry, Distinct, operands, arms, entries, Reword, Chain, here, link, Reports, Agree, with_bindings}
 use Rattle.rewording.proofs.Theorem.{demand-three}
 
 -- buffers that are lent

@@ -3,18 +3,18 @@ use mathlib.Core.Path.{◌≡◌, refl, sym, ◌∙◌, ap, ap₂}
 use mathlib.Core.List.Memᴰ
 use mathlib.Core.List.{List, [], ◌∷◌, ◌++◌, map as map_l, append_assoc, Memᴰ}
 use mathlib.Core.Option.{none}
-use mathlib.Core.Bool.{Bool, cond}
+use mathlib.Core.Bool.{cond}
 use Prim.Native.Nat.{ℕ, suc, zero, ◌+◌, ◌*◌, ◌≤◌, ◌<◌, ◌-◌}
 use native.Mathlib.Omega.{arith}
-use lib.ListN.{length, take, drop, length-append, replicate, drop_of_length-le, length-replicate, replicate-append-replicate}
+use lib.ListN.{length, take, length-append, replicate, drop_of_length-le, length-replicate, replicate-append-replicate}
 use lib.Dec.{eqb}
 use Rattle.semantics.specs.Bytes.{Bytes}
 use Rattle.semantics.specs.Ty.{Ty, unite, Fields, ∅ᶠ, t_map, set_field}
-use Rattle.semantics.specs.Sheet.{case_word, map_word, key_word, Head, Place, entry_place, Role, plain, condition, answer, inner, low, high, present, arm_roles, row, roles, arity}
-use Rattle.semantics.specs.Walk.{Res, Env, answers, mapped, named, tys, asked, spread, type_by, type_of, own_by, own, tops_by, label, step, walk}
+use Rattle.semantics.specs.Sheet.{case_word, map_word, key_word, Head, entry_place, Role, plain, condition, answer, inner, low, high, present, arm_roles, row, roles, arity}
+use Rattle.semantics.specs.Walk.{Res, Env, answers, mapped, named, tys, spread, type_by, type_of, own_by, own, tops_by, label, step, walk}
 use Rattle.semantics.proofs.Order.{unite-exchange, set-swap}
-use Rattle.rewording.specs.Reword.{mk, Whole, done, grown, Entries, no-entry, entry, Distinct, Each, no_more, more}
-use Rattle.rewording.proofs.Congruence.{each-length, Like, Same, count_if, count-append, same_ok, named-eq, spread-like, walk-self, whole_length, whole-walk, StepSwap}
+use Rattle.rewording.specs.Reword.{mk, Whole, done, grown, Entries, no-entry, entry, Distinct, Each, no_more}
+use Rattle.rewording.proofs.Congruence.{each-length, Like, Same, count-append, same_ok, named-eq, spread-like, walk-self, whole_length, whole-walk, StepSwap}
 
 -- ## Roles in parts
 

@@ -2,11 +2,11 @@
 use mathlib.Core.Path.{◌≡◌, refl, sym, ◌∙◌, ap, ap₂}
 use mathlib.Core.List.{List, [], ◌∷◌, ◌++◌, map as map_l, append-nil}
 use mathlib.Core.Option.{Option, none, some}
-use mathlib.Core.Bool.{Bool, true, false, cond, ◌&&◌, and-eq-true_iff}
-use Prim.Native.Nat.{ℕ, suc, zero, ◌+◌, ◌/◌, ◌%◌, ◌<◌, ◌≤◌}
+use mathlib.Core.Bool.{Bool, true, cond, ◌&&◌, and-eq-true_iff}
+use Prim.Native.Nat.{ℕ, suc, zero, ◌+◌, ◌/◌, ◌%◌, ◌<◌}
 use native.Mathlib.Omega.{arith}
 use lib.ListN.{length}
-use lib.Dec.{eqb, ltb}
+use lib.Dec.{ltb}
 use borrow.Author.Tests.{lt-ltb, ltb-true, ne_eqb}
 use Rattle.semantics.specs.Bytes.{Bytes, text, same, front, split, unlines, shown_in, shown, hex}
 use Rattle.semantics.specs.Ty.{Base, t_any, t_null, t_bool, t_int, t_float, t_num, t_string, t_date, t_datetime, t_path, t_unknown, Ty, base, t_list, t_map, t_node, t_relationship, t_union, Tys, ∅, ◌⊕◌, Fields, ∅ᶠ, field, letter, name_to, names_to, labels_to, rel_to, line_to, members_to, fields_to, line}
@@ -15,7 +15,7 @@ use Rattle.semantics.specs.Walk.{Fault, fault_2009, fault_2010, fault_2011, faul
 use Rattle.semantics.specs.Calls.{type_name, fault_text, fault_line, top_line, fault_count, end_line, top_lines, report_lines, report}
 use Rattle.semantics.proofs.Order.{hex-low}
 use Rattle.semantics.proofs.All.{All, empty, also, all_append, either}
-use Rattle.rewording.specs.Reword.{pieces, begins, type_lines, into-first, fault_groups, last_line, occurrences, EachAsOften, Each, no_more, more, Agree}
+use Rattle.rewording.specs.Reword.{pieces, type_lines, into-first, fault_groups, last_line, occurrences, EachAsOften, Each, no_more, more, Agree}
 use Rattle.rewording.proofs.Congruence.{count_if, Same, TopLike, each_append, each-length}
 
 -- ## No LF in a line

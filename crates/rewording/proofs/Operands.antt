@@ -6,7 +6,7 @@ use Prim.Native.Nat.{ℕ, suc, ◌+◌}
 use native.Mathlib.Omega.{arith}
 use lib.ListN.{length, take, drop, get_or}
 use Rattle.semantics.specs.Bytes.{lex, same}
-use Rattle.semantics.specs.Ty.{Base, t_any, t_null, t_bool, t_int, t_float, t_num, t_string, t_date, t_datetime, t_path, t_unknown, Ty, base, t_list, t_map, t_node, t_relationship, t_union, letter, among, matches, line_to, line, equal, nesting}
+use Rattle.semantics.specs.Ty.{t_any, t_null, t_bool, t_int, t_float, t_num, t_string, t_date, t_datetime, t_path, t_unknown, Ty, base, t_list, t_map, t_node, t_relationship, t_union, letter, among, matches, line_to, line, equal, nesting}
 use Rattle.semantics.specs.Unify.{tested, meeting, pair, arms, unify_in, unify}
 use Rattle.semantics.specs.Sheet.{bin_word, Head, row, roles, arity}
 use Rattle.semantics.specs.Walk.{Res, Env, Op, arithmetic, comparison, equality, boolean, string, concat, op, op_type, op_faults, numeric, meets, or_else, type_by, type_of, asked, spread, own_by, own, tops_by, label, step, walk}

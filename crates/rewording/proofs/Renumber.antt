@@ -1,17 +1,17 @@
 -- Variables renumbered one to one, the `b` lines put back in ascending order: the same top expressions.
-use mathlib.Core.Path.{◌≡◌, refl, sym, ◌∙◌, ap, ap₂}
+use mathlib.Core.Path.{◌≡◌, refl, sym, ◌∙◌, ap}
 use mathlib.Core.List.{List, [], ◌∷◌, ◌++◌, map as map_l, Memᴰ}
 use mathlib.Core.Option.{Option, none, some}
 use mathlib.Core.Bool.{Bool, true, false}
-use Prim.Native.Nat.{ℕ, suc, zero, ◌<◌}
+use Prim.Native.Nat.{ℕ, suc, ◌<◌}
 use native.Mathlib.Omega.{arith}
 use lib.Dec.{eqb, ltb}
 use borrow.Author.Tests.{eqb-true, eqb-false, eq-eqb, ne_eqb, ltb-true}
 use Rattle.semantics.specs.Bytes.{Bytes}
 use Rattle.semantics.specs.Ty.{Ty}
-use Rattle.semantics.specs.Sheet.{Word, Head, num, Role, Typing, constant, var_type, element, slice, listing, mapping, calling, operator, unary, casing, membership, comprehension, Rule, silent, entering, typed, row, rank, place, rule, roles, arity}
-use Rattle.semantics.specs.Walk.{Env, kind_type, var_type_in, var_type_of, Res, Top, named, type_by, type_of, own_by, own, label, step, walk, binds, bound_by, bound, env_of, results, tops, tops_by, all_tops, typing}
-use Rattle.rewording.specs.Reword.{mk, renumber_optional, renumbered, with-variable, variables, OneToOne, binding_line, insert_binding, in_ascending_order, renumbered_binding, with_bindings, Each, no_more, more}
+use Rattle.semantics.specs.Sheet.{Head, num, Role, Typing, constant, var_type, element, slice, listing, mapping, calling, operator, unary, casing, membership, comprehension, Rule, silent, entering, typed, row, rank, place, rule, roles, arity}
+use Rattle.semantics.specs.Walk.{Env, kind_type, var_type_in, var_type_of, Res, named, type_by, type_of, own_by, own, step, walk, binds, bound_by, bound, env_of, results, tops, tops_by, all_tops, typing}
+use Rattle.rewording.specs.Reword.{renumber_optional, renumbered, with-variable, variables, OneToOne, binding_line, insert_binding, in_ascending_order, renumbered_binding, with_bindings, Each, no_more, more}
 use Rattle.rewording.proofs.Congruence.{each_take, each-drop, Rel, Respects, TopLike, Like, named-eq, all-tops, of_eq, spread-like, tops-by-like}
 
 abbrev Bindings : Type 0

@@ -1,10 +1,10 @@
 -- Demand 3, proved: the claims of specs/Reword.antt.
-use mathlib.Core.Path.{◌≡◌, refl, sym, ◌∙◌, ap, ap₂}
+use mathlib.Core.Path.{◌≡◌, refl, sym, ◌∙◌, ap}
 use mathlib.Core.List.{List, [], ◌∷◌, ◌++◌, map as map_l, Memᴰ}
 use mathlib.Core.Bool.{Bool, true, false}
 use mathlib.Core.Logic.{inl, inr}
 use mathlib.Core.Option.{Option, none, some}
-use Prim.Native.Nat.{ℕ, suc, zero, ◌+◌, ◌*◌, ◌≤◌}
+use Prim.Native.Nat.{ℕ, ◌+◌, ◌*◌}
 use native.Mathlib.Omega.{arith}
 use lib.ListN.{length, take, drop, length-append}
 use lib.Seq.{take-append_seam}
@@ -13,11 +13,11 @@ use Rattle.semantics.specs.Limits.{sheet_limit, depth_limit, work_size}
 use Rattle.semantics.specs.Bytes.{Bytes}
 use Rattle.semantics.specs.Sheet.{bin_word, case_word, map_word, key_word, Head, num, row, rank, place, low, Sheet, refused, heads, sheet}
 use Rattle.semantics.specs.Walk.{Fault, Top, Env, env_of, bound, bound_by, results, all_tops, typing}
-use Rattle.semantics.specs.Calls.{top_line, report, Outcome, refusal, accepted, limited, judged, outcome, first_large, settled, sheet_call, Settled, untouched, cleared, answered, written}
+use Rattle.semantics.specs.Calls.{top_line, report, Outcome, refusal, accepted, limited, judged, outcome, settled, sheet_call, Settled, untouched, cleared, answered}
 use Rattle.semantics.proofs.All.{All, empty, also}
 use Rattle.semantics.proofs.Causes.{FineSheet, sheet-fine}
 use Rattle.semantics.proofs.RegularWalk.{RegularTop, typing-regular}
-use Rattle.rewording.specs.Reword.{mk, Line, Keep, reworded, renumber, Whole, Entries, Exchange, operands, arms, entries, Reword, Chain, here, link, Reports, type_lines, pieces, Each, no_more, more, Agree, CanonicalLine, DemandThree, Alike, same_line, other}
+use Rattle.rewording.specs.Reword.{mk, Line, Keep, reworded, renumber, Exchange, operands, arms, entries, Reword, Chain, here, link, Reports, type_lines, pieces, Each, no_more, more, Agree, CanonicalLine, DemandThree, Alike, same_line, other}
 use Rattle.rewording.proofs.Congruence.{each-refl, each_append, Rel, Respects, TopLike, Same, same_ok, eq-ok, all-tops, Alike as WalkAlike, walk_after, exchange-like}
 use Rattle.rewording.proofs.Unread.{results-alike}
 use Rattle.rewording.proofs.Renumber.{renumber-agrees}

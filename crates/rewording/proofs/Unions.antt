@@ -1,8 +1,8 @@
 -- Every union inside a regular type is canonical.
 use mathlib.Core.Path.{◌≡◌, ◌∙◌, ap}
-use mathlib.Core.List.{List, [], ◌∷◌, map, Memᴰ}
+use mathlib.Core.List.{List, map, Memᴰ}
 use mathlib.Core.Bool.{false}
-use Rattle.semantics.specs.Ty.{Ty, t_list, t_map, t_union, Tys, ∅, ◌⊕◌, Fields, field, members, line, is_union}
+use Rattle.semantics.specs.Ty.{Ty, t_union, Tys, Fields, members, line, is_union}
 use Rattle.semantics.proofs.All.{All, empty, also}
 use Rattle.semantics.proofs.Regular.{Regular, RegularS, RegularF, Member, ascends-true, regular-members}
 use Rattle.rewording.specs.Reword.{Within, itself, of-list, of_map, of-union, WithinFields, in_field, in-later-field, WithinMembers, in-member, in-later-member, Canonical}

@@ -1,20 +1,20 @@
 -- A line reworded where it stands comes to the very same, so literal values and unread names are seen nowhere.
-use mathlib.Core.Path.{◌≡◌, refl, sym, ◌∙◌, ap, ap₂}
-use mathlib.Core.List.{List, [], ◌∷◌, ◌++◌}
+use mathlib.Core.Path.{◌≡◌, refl, sym, ◌∙◌, ap}
+use mathlib.Core.List.{List, ◌∷◌}
 use mathlib.Core.Option.{Option, none, some}
 use mathlib.Core.Bool.{true, false}
-use mathlib.Core.Logic.{◌⊎◌, inl, inr}
-use Prim.Native.Nat.{ℕ, suc, zero, ◌≤◌}
+use mathlib.Core.Logic.{inl, inr}
+use Prim.Native.Nat.{ℕ, suc, ◌≤◌}
 use lib.ListN.{length, take, drop}
-use lib.Dec.{ltb, eqb}
+use lib.Dec.{eqb}
 use borrow.Author.Tests.{le-ltb}
 use Rattle.semantics.specs.Limits.{sheet_limit, depth_limit, work_size}
 use Rattle.semantics.specs.Bytes.{Bytes}
-use Rattle.semantics.specs.Builtins.{folded, lookup, lookup_in, builtins}
-use Rattle.semantics.specs.Sheet.{Head, num, place, row, rank, roles, arity, Sheet, heads, sheet}
+use Rattle.semantics.specs.Builtins.{lookup, lookup_in, builtins}
+use Rattle.semantics.specs.Sheet.{Head, num, place, row, rank, roles, arity, heads, sheet}
 use Rattle.semantics.specs.Walk.{Res, Env, type_of, type_by, own, own_by, last_tests, last_by, label, tops_by, step, walk, bound, bound_by, env_of, results, all_tops, all_tests, typing}
-use Rattle.semantics.specs.Calls.{Settled, untouched, settled, accepted, report, first_large, outcome, judged, limited, sheet_call}
-use Rattle.rewording.specs.Reword.{Literal, a_bool, an_int, a_float, a_string, Unread, in-str, in-par, in-unr, in-prop, in-cop, in-com, in-sho, in-ali, in-lab, in-sp, in-rp, in-cal, SameFunction, Line, value, unread, alias, function, Each, no_more, more, Alike, same_line, other, Secrecy}
+use Rattle.semantics.specs.Calls.{Settled, untouched, settled, accepted, first_large, outcome, judged, limited, sheet_call}
+use Rattle.rewording.specs.Reword.{a_bool, an_int, a_float, a_string, in-str, in-par, in-unr, in-prop, in-cop, in-com, in-sho, in-ali, in-lab, in-sp, in-rp, in-cal, SameFunction, Line, value, unread, alias, function, Each, no_more, more, Alike, same_line, other, Secrecy}
 
 -- names of one function are looked up alike
 pub same-function : (a b : Bytes) → SameFunction a b → lookup a ≡ lookup b

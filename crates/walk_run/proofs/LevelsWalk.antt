@@ -10,7 +10,7 @@ use Rattle.semantics.specs.Bytes.{Bytes}
 use Rattle.semantics.specs.Ty.{t_any, t_unknown, Ty, base, t_list, t_map, t_node, t_relationship, t_union, Fields, ∅ᶠ, nesting, set_field}
 use Rattle.semantics.specs.Unify.{Answer, agreed, mismatch, unify}
 use Rattle.semantics.specs.Builtins.{ReturnShape, fixed, list_element, list_self, Builtin, builtin_id, builtin_size, builtin_head, builtin_tail, builtin_last, builtin_keys, builtin_values, signature, lookup, element_of, list_or, resolve_return}
-use Rattle.semantics.specs.Sheet.{Word, Head, num, Role, plain, condition, answer, inner, Typing, constant, var_type, element, slice, listing, mapping, calling, operator, unary, casing, membership, comprehension, Rule, silent, entering, typed, row, rule, roles, arity}
+use Rattle.semantics.specs.Sheet.{Head, num, Role, plain, condition, answer, inner, Typing, constant, var_type, element, slice, listing, mapping, calling, operator, unary, casing, membership, comprehension, Rule, silent, entering, typed, rule, roles, arity}
 use Rattle.semantics.specs.Walk.{Res, Env, kind_type, var_type_in, var_type_of, a_number, meets, numeric, Op, arithmetic, comparison, equality, boolean, string, concat, op, or_else, op_type, unary_type, call_type, grown, running, listed, mapped, answers, last_of, ty_of, tys, nth, type_by, type_of, step, walk}
 use Rattle.semantics.proofs.Words.{Simple, a-base, a-map, row-simple}
 use Rattle.semantics.proofs.All.{All, empty, also, all_map, all-at, either}

@@ -11,7 +11,7 @@ use Rattle.semantics.specs.Walk.{Fault, Res, Env, a_number, meets, numeric, Op, 
 use Rattle.semantics.specs.Calls.{any_large}
 use Rattle.semantics.proofs.All.{All, also, either}
 use Rattle.semantics.proofs.Regular.{Regular}
-use Rattle.unify_run.specs.Run.{mismatch, answered, unless, verdict}
+use Rattle.unify_run.specs.Run.{answered, unless, verdict}
 use Rattle.unify_run.proofs.Verdict.{large-append}
 use Rattle.unify_run.proofs.UnionsMeet.{base-small}
 use Rattle.unify_run.proofs.Answers.{Fine, FineRun, unify-fine}

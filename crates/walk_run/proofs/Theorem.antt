@@ -5,7 +5,7 @@ use Prim.Native.Nat.{ℕ}
 use mathlib.Core.Bool.{false}
 use lib.ListN.{length}
 use Rattle.semantics.specs.Ty.{Ty, too_large}
-use Rattle.semantics.specs.Sheet.{Word, Head, Role, Typing, constant, var_type, element, slice, listing, mapping, calling, operator, unary, casing, membership, comprehension, Rule, silent, entering, row, rule, roles, arity}
+use Rattle.semantics.specs.Sheet.{Head, Role, Typing, constant, var_type, element, slice, listing, mapping, calling, operator, unary, casing, membership, comprehension, Rule, rule, roles, arity}
 use Rattle.semantics.specs.Walk.{Res, Env, step}
 use Rattle.semantics.proofs.Words.{Simple, a-base, a-map, row-simple}
 use Rattle.semantics.proofs.All.{All}

@@ -1,5 +1,5 @@
 -- The walk as the code runs it: of a line's children only what its rule keeps, and a stop at the first thing that is too large.
-use Rattle.std.specs.Prelude.{List, [], ◌∷◌, ◌++◌, Bool, true, false, ℕ, suc, zero}
+use Rattle.std.specs.Prelude.{List, [], ◌∷◌, ◌++◌, true, false, ℕ}
 use Rattle.std.proofs.Math.Option.{Option, none, some}
 use Rattle.semantics.specs.Bytes.{Bytes}
 use Rattle.semantics.specs.Ty.{t_any, t_bool, t_unknown, Ty, base, t_list, t_map, t_union, t_node, t_relationship, Fields, ∅ᶠ, too_large, opened, joined, set_field}
