@@ -17,7 +17,7 @@ use line::Head;
 use report::Tally;
 
 // Where the `b` lines stand.
-#[derive(Drop)]
+#[derive(Clone, Copy)]
 pub struct Env {
     pub from: usize,
     pub to: usize,

@@ -8,7 +8,7 @@ use line::{Head, HirId, class_of, is_leaf, read_line};
 use report::Tally;
 
 // The next line's place and number.
-#[derive(Drop)]
+#[derive(Clone, Copy)]
 pub struct Cur {
     pub at: usize,
     pub line: HirId,

@@ -35,7 +35,7 @@ pub const E2013: u64 = 2013;
 pub const E5012: u64 = 5012;
 
 // How far the output is filled, whether it fits or not, and how many faults there are.
-#[derive(Drop)]
+#[derive(Clone, Copy)]
 pub struct Tally {
     pub fill: usize,
     pub faults: usize,
