@@ -31,7 +31,7 @@ fn byte_before(s: &[u8], i: usize, end: usize) -> u8
 const HEAD_BYTES: usize = 7;
 
 // What a type begins with: its letter, its third byte (the second is a comma), and the next four as one number.
-#[derive(Drop)]
+#[derive(Clone, Copy)]
 pub struct Head {
     pub letter: u8,
     pub third: u8,

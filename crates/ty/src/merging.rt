@@ -8,7 +8,7 @@ use crate::letters::CLOSE;
 use text::Order;
 
 // Where each list goes on, and how long the line is that is kept (0: over).
-#[derive(Drop)]
+#[derive(Clone, Copy)]
 pub struct Merge {
     pub p: usize,
     pub q: usize,
