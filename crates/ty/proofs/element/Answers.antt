@@ -1,5 +1,4 @@
 use Rattle.ty.proofs.Lines.{list-room, list-part}
-use borrow.Author.Rules.{rules}
 use Rattle.ty.proofs.element.Goals as goal
 
 pub slice_bounds-result-count : goal.slice_bounds-result-count

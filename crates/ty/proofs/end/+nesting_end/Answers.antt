@@ -1,11 +1,7 @@
-use borrow.Author.Rules.{rules}
 use mathlib.Core.Path.{sym, ◌∙◌}
-use Prim.Native.Nat.{◌-◌}
 use native.Mathlib.Omega.{arith}
-use lib.ListN.{length}
 use Rattle.ty.proofs.Fields.{type-two}
-use Rattle.ty.proofs.Loops.{Nested, nested, nested-none, nested-flat, nested-from, nested-bad, nested-on, nested-less, nested-list, nested-closed, nested-room, content-four}
-use Prim.Native.Nat.{ℕ, ◌<◌}
+use Rattle.ty.proofs.Loops.{nested, nested-none, nested-flat, nested-from, nested-bad, nested-on, nested-less, nested-list, nested-closed, content-four}
 use Rattle.ty.proofs.end.+nesting_end.Goals as goal
 
 pub returns-then-left-eq0 : goal.returns-then-left-eq0

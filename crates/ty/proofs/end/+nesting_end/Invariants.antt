@@ -1,11 +1,6 @@
-use borrow.Author.Rules.{rules}
-use mathlib.Core.Path.{sym, ◌∙◌}
 use Prim.Native.Nat.{◌-◌}
-use native.Mathlib.Omega.{arith}
 use lib.ListN.{length}
-use Rattle.ty.proofs.Fields.{type-two}
-use Rattle.ty.proofs.Loops.{Nested, nested, nested-none, nested-flat, nested-from, nested-bad, nested-on, nested-less, nested-list, nested-closed, nested-room, content-four}
-use Prim.Native.Nat.{ℕ, ◌<◌}
+use Rattle.ty.proofs.Loops.{Nested}
 use Rattle.ty.proofs.end.+nesting_end.Given as goal
 
 abbrev pub decreases-nesting_end : goal.decreases-nesting_end

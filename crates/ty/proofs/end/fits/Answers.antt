@@ -1,5 +1,4 @@
 use Rattle.ty.proofs.Sizes.{fits-long, fits-short, fits-deep, fits_not}
-use borrow.Author.Rules.{rules}
 use Rattle.ty.proofs.end.fits.Goals as goal
 
 pub returns-then-s-gt-TYPE_LIMIT : goal.returns-then-s-gt-TYPE_LIMIT

@@ -2,7 +2,6 @@ use borrow.Author.Tests.{eq-eqb, ne_eqb}
 use native.Mathlib.Omega.{arith}
 use Rattle.ty.specs.Read.{letter_at}
 use Rattle.ty.proofs.Fields.{letter-past}
-use borrow.Author.Rules.{rules}
 use Rattle.ty.proofs.end.letter.Goals as goal
 
 pub returns-then-s-q : goal.returns-then-s-q

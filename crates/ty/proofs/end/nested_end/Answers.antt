@@ -1,8 +1,5 @@
-use borrow.Author.Rules.{rules}
-use Prim.Native.Nat.{◌-◌}
 use native.Mathlib.Omega.{arith}
-use lib.ListN.{length}
-use Rattle.ty.proofs.Skips.{Skipping, skipping, skip_at, skip-depth, skip-on, skipped}
+use Rattle.ty.proofs.Skips.{skipping, skip-depth, skip-on, skipped}
 use Rattle.ty.proofs.end.nested_end.Goals as goal
 
 pub loop-more-init : goal.loop-more-init

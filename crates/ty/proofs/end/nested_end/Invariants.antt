@@ -1,8 +1,6 @@
-use borrow.Author.Rules.{rules}
 use Prim.Native.Nat.{◌-◌}
-use native.Mathlib.Omega.{arith}
 use lib.ListN.{length}
-use Rattle.ty.proofs.Skips.{Skipping, skipping, skip_at, skip-depth, skip-on, skipped}
+use Rattle.ty.proofs.Skips.{Skipping}
 use Rattle.ty.proofs.end.nested_end.Given as goal
 
 abbrev pub invariant-loop-more : goal.invariant-loop-more

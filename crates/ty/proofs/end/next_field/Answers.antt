@@ -1,9 +1,6 @@
-use Prim.Native.Nat.{◌+◌, ◌-◌, ◌≤◌}
+use Prim.Native.Nat.{◌+◌}
 use native.Mathlib.Omega.{arith}
 use mathlib.Core.Path.{ap}
-use lib.ListN.{drop}
-use borrow.Author.Rules.{rules}
-use Rattle.text.specs.Text.{index_of}
 use Rattle.ty.proofs.Skips.{comma-on, comma-here}
 use Rattle.ty.proofs.end.next_field.Goals as goal
 

@@ -1,5 +1,4 @@
 use borrow.Author.Tests.{ne_eqb}
-use borrow.Author.Rules.{rules}
 use native.Mathlib.Omega.{arith}
 use Rattle.ty.specs.Skip.{opened_by}
 use Rattle.ty.proofs.end.opened.Goals as goal

@@ -2,7 +2,6 @@ use borrow.Author.Tests.{eq-eqb, ne_eqb}
 use mathlib.Core.Path.{ap}
 use mathlib.Core.Bool.{not}
 use Rattle.ty.specs.Read.{goes_in}
-use borrow.Author.Rules.{rules}
 use Rattle.ty.proofs.end.part_follows.Goals as goal
 
 pub returns-then-k-eq-LIST : goal.returns-then-k-eq-LIST

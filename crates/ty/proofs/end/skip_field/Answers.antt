@@ -1,5 +1,4 @@
 use Rattle.ty.proofs.Skips.{skip-inside, worded, word-step}
-use borrow.Author.Rules.{rules}
 use Rattle.ty.proofs.end.skip_field.Goals as goal
 
 pub bounds-s-q : goal.bounds-s-q

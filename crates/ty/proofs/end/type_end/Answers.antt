@@ -1,10 +1,6 @@
 use native.Mathlib.Omega.{arith}
 use Rattle.ty.proofs.Skips.{type-room, rel-at, rel-ends}
 use Rattle.ty.proofs.Heads.{flat-ends}
-use Rattle.ty.proofs.end.type_end.Reads as reads
-use Rattle.ty.proofs.end.type_end.Lts as lts
-use Rattle.ty.proofs.end.nested_end.Reads as nested-end-reads
-use Rattle.ty.proofs.end.relationship_end.Reads as relationship-end-reads
 use Rattle.ty.proofs.end.type_end.Goals as goal
 
 pub bounds-s-at : goal.bounds-s-at

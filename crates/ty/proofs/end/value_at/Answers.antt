@@ -1,7 +1,6 @@
 use borrow.Author.Tests.{eq-eqb, ne_eqb}
 use native.Mathlib.Omega.{arith}
 use Rattle.ty.specs.Read.{value_at}
-use borrow.Author.Rules.{rules}
 use Rattle.ty.proofs.end.value_at.Goals as goal
 
 pub returns-then-k-ne-MAP : goal.returns-then-k-ne-MAP

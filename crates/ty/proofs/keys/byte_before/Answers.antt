@@ -1,9 +1,6 @@
 use borrow.Author.Tests.{lt-ltb, le-ltb}
 use mathlib.Core.Path.{refl}
 use Rattle.ty.specs.Keys.{byte_before}
-use borrow.Author.Rules.{rules}
-use Rattle.ty.proofs.keys.byte_before.Reads as reads
-use Rattle.ty.proofs.keys.byte_before.Lts as lts
 use Rattle.ty.proofs.keys.byte_before.Goals as goal
 
 pub returns-then-i-end : goal.returns-then-i-end

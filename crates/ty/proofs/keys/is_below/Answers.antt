@@ -1,10 +1,5 @@
 use native.Mathlib.Omega.{arith}
-use mathlib.Core.Bool.{false≢true}
 use Rattle.ty.proofs.Heads.{told-letter, told-third, told-key}
-use borrow.Author.Rules.{rules}
-use Rattle.ty.proofs.keys.is_below.Reads as reads
-use Rattle.ty.proofs.keys.is_below.Lts as lts
-use Rattle.ty.proofs.keys.key_of.Reads as key-of-reads
 use Rattle.ty.proofs.keys.is_below.Goals as goal
 
 pub returns-then-letter-x : goal.returns-then-letter-x

@@ -1,9 +1,5 @@
 use native.Mathlib.Omega.{arith}
 use Rattle.ty.proofs.Heads.{told-name}
-use borrow.Author.Rules.{rules}
-use Rattle.ty.proofs.keys.is_name_below.Reads as reads
-use Rattle.ty.proofs.keys.is_name_below.Lts as lts
-use Rattle.ty.proofs.keys.key_of.Reads as key-of-reads
 use Rattle.ty.proofs.keys.is_name_below.Goals as goal
 
 pub returns : goal.returns

@@ -1,15 +1,8 @@
-use borrow.Author.Rules.{rules}
 use native.Mathlib.Omega.{arith}
 use Prim.Native.Nat.{◌+◌, ◌≤◌}
-use mathlib.Core.Path.{◌≡◌, refl, ap, ◌∙◌}
-use lib.ListN.{length, set, length-set}
-use lib.Seq.{length-sets}
+use mathlib.Core.Path.{refl}
+use lib.ListN.{length}
 use Rattle.ty.proofs.EntryLaws.{fronted-over, fronted-within, inserted-long, inserted-length, inserted-front}
-use Rattle.ty.proofs.map.insert_entry.Reads as reads
-use Rattle.ty.proofs.map.insert_entry.Lts as lts
-use Rattle.text.proofs.append.Reads as append-reads
-use Rattle.text.proofs.rotate.Reads as rotate-reads
-use Rattle.text.proofs.slide_up.Reads as slide-up-reads
 use Rattle.ty.proofs.map.insert_entry.Goals as goal
 
 pub returns-then-end-k-gt-TYPE_LIMIT : goal.returns-then-end-k-gt-TYPE_LIMIT

@@ -1,12 +1,5 @@
-use borrow.Author.Rules.{rules}
 use Rattle.semantics.specs.Ty.{t_map, set_field}
-use Rattle.ty.proofs.EntryLaws.{new_in, old-in, new_line, old-line, fronted-some, fronted-made}
-use Rattle.ty.proofs.map.put_entry.Reads as reads
-use Rattle.ty.proofs.map.put_entry.Lts as lts
-use Rattle.ty.proofs.map.entry_spot.Reads as entry-spot-reads
-use Rattle.ty.proofs.map.insert_entry.Reads as insert-entry-reads
-use Rattle.ty.proofs.map.replace_value.Reads as replace-value-reads
-use Rattle.ty.proofs.map.tested.Reads as tested_reads
+use Rattle.ty.proofs.EntryLaws.{new_line, old-line, fronted-some, fronted-made}
 use Rattle.ty.proofs.map.put_entry.Goals as goal
 
 pub tested-requires : goal.tested-requires

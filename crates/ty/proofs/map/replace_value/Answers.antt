@@ -1,14 +1,5 @@
-use borrow.Author.Rules.{rules}
-use native.Mathlib.Omega.{arith}
-use mathlib.Core.Path.{refl, ap, ◌∙◌}
-use mathlib.Core.Logic.{inl}
-use lib.ListN.{length}
-use Rattle.text.proofs.Laws.{length-rotated}
+use mathlib.Core.Path.{refl}
 use Rattle.ty.proofs.EntryLaws.{fronted-over, fronted-within, replaced-long, replaced-length, replaced-front}
-use Rattle.ty.proofs.map.replace_value.Reads as reads
-use Rattle.ty.proofs.map.replace_value.Lts as lts
-use Rattle.text.proofs.copy_in.Reads as copy-in-reads
-use Rattle.text.proofs.rotate.Reads as rotate-reads
 use Rattle.ty.proofs.map.replace_value.Goals as goal
 
 pub returns-then-n-gt-TYPE_LIMIT : goal.returns-then-n-gt-TYPE_LIMIT

@@ -1,10 +1,6 @@
-use borrow.Author.Rules.{rules}
 use mathlib.Core.Path.{refl}
 use borrow.Author.Tests.{eq-eqb, ne_eqb}
 use Rattle.ty.specs.Merging.{closed_of, closed_text}
-use Rattle.ty.proofs.merging.close_line.Reads as reads
-use Rattle.ty.proofs.merging.close_line.Lts as lts
-use Rattle.text.proofs.append.Reads as append-reads
 use Rattle.ty.proofs.merging.close_line.Goals as goal
 
 pub returns-then-n-eq0 : goal.returns-then-n-eq0

@@ -1,12 +1,7 @@
-use borrow.Author.Rules.{rules}
 use native.Mathlib.Omega.{arith}
 use mathlib.Core.Path.{sym, ◌∙◌}
 use mathlib.Core.Logic.{inr}
 use Rattle.ty.proofs.MergeLaws.{kept-room, kept-text, over-text}
-use Rattle.ty.proofs.merging.keep.Reads as reads
-use Rattle.ty.proofs.merging.keep.Lts as lts
-use Rattle.text.proofs.copy_in.Reads as copy-in-reads
-use Rattle.ty.proofs.merging.kept.Reads as kept-reads
 use Rattle.ty.proofs.merging.keep.Goals as goal
 
 pub copy_in-requires : goal.copy_in-requires

@@ -1,9 +1,6 @@
-use borrow.Author.Rules.{rules}
 use Prim.Native.Nat.{◌+◌}
 use borrow.Author.Tests.{eq-eqb, ne_eqb, lt-ltb, le-ltb}
 use Rattle.ty.specs.Merging.{kept_of}
-use Rattle.ty.proofs.merging.kept.Reads as reads
-use Rattle.ty.proofs.merging.kept.Lts as lts
 use Rattle.ty.proofs.merging.kept.Goals as goal
 
 pub returns-then-n-eq0 : goal.returns-then-n-eq0

@@ -1,11 +1,7 @@
-use borrow.Author.Rules.{rules}
 use native.Mathlib.Nat.{le_of_lt}
 use native.Mathlib.Omega.{arith}
 use mathlib.Core.Option.{some}
 use Rattle.ty.proofs.NameLaws.{head_in, name-ends}
-use Rattle.ty.proofs.merging.name_len.Reads as reads
-use Rattle.ty.proofs.merging.name_len.Lts as lts
-use Rattle.text.proofs.field_end.Reads as field-end-reads
 use Rattle.ty.proofs.merging.name_len.Goals as goal
 
 pub field_end-e-requires : goal.field_end-e-requires

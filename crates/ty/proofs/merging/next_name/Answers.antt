@@ -1,10 +1,5 @@
-use borrow.Author.Rules.{rules}
 use native.Mathlib.Nat.{le_of_lt}
 use Rattle.ty.proofs.NameLaws.{head_in, next-end, next-second, next-first, next-compared}
-use Rattle.ty.proofs.merging.next_name.Reads as reads
-use Rattle.ty.proofs.merging.next_name.Lts as lts
-use Rattle.text.proofs.compare_in.Reads as compare-in-reads
-use Rattle.text.proofs.field_end.Reads as field-end-reads
 use Rattle.ty.proofs.merging.next_name.Goals as goal
 
 pub bounds-s-p : goal.bounds-s-p

@@ -1,13 +1,8 @@
-use borrow.Author.Rules.{rules}
 use native.Mathlib.Omega.{arith}
 use Prim.Native.Nat.{ℕ}
 use mathlib.Core.Path.{ap, ◌∙◌}
 use Rattle.ty.specs.Merging.{kept_text}
 use Rattle.ty.proofs.MergeLaws.{taken-below, moved-first, moved-second, moved-both}
-use Rattle.ty.proofs.merging.take.Reads as reads
-use Rattle.ty.proofs.merging.take.Lts as lts
-use Rattle.ty.proofs.merging.keep.Reads as keep-reads
-use Rattle.ty.proofs.merging.taken.Reads as taken-reads
 use Rattle.ty.proofs.merging.take.Goals as goal
 
 pub keep-n-requires : goal.keep-n-requires

@@ -1,7 +1,5 @@
 use borrow.Author.Tests.{eq-eqb, ne_eqb}
 use Rattle.ty.specs.Merging.{taken_at}
-use Rattle.ty.proofs.merging.taken.Reads as reads
-use Rattle.ty.proofs.merging.taken.Lts as lts
 use Rattle.ty.proofs.merging.taken.Goals as goal
 
 pub returns-then-next-eq1 : goal.returns-then-next-eq1

@@ -1,13 +1,9 @@
-use borrow.Author.Rules.{rules}
 use native.Mathlib.Omega.{arith}
 use Prim.Native.Nat.{ℕ, ◌+◌, ◌≤◌}
 use mathlib.Core.Path.{◌≡◌}
 use Rattle.semantics.specs.Bytes.{text}
 use Rattle.ty.specs.Kind.{name_of_kind}
 use Rattle.ty.proofs.KindLaws.{kind-name, name-written}
-use Rattle.ty.proofs.names.type_name.Reads as reads
-use Rattle.ty.proofs.names.type_name.Lts as lts
-use Rattle.text.proofs.append.Reads as append-reads
 use Rattle.ty.proofs.names.type_name.Goals as goal
 
 -- a letter that is not the next one is above it

@@ -1,6 +1,5 @@
 use borrow.Author.Tests.{eq-eqb, ne_eqb, lt-ltb, le-ltb}
 use Rattle.ty.specs.Read.{end_of}
-use borrow.Author.Rules.{rules}
 use Rattle.ty.proofs.reader.end_of.Goals as goal
 
 pub returns-then-k-eq-LIST : goal.returns-then-k-eq-LIST

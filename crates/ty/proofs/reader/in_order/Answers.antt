@@ -3,7 +3,6 @@ use borrow.Author.Tests.{eq-eqb, ne_eqb}
 use Rattle.text.specs.Text.{order_of}
 use Rattle.semantics.specs.Ty.{is_below}
 use Rattle.ty.specs.Read.{in_order}
-use borrow.Author.Rules.{rules}
 use Rattle.ty.proofs.reader.in_order.Goals as goal
 
 pub returns-then-n-eq0 : goal.returns-then-n-eq0

@@ -1,6 +1,5 @@
 use Rattle.text.proofs.Laws.{part_slice}
 use Rattle.ty.proofs.Labels.{in-none, in-long, in-odd, in-hex}
-use borrow.Author.Rules.{rules}
 use Rattle.ty.proofs.reader.is_name.Goals as goal
 
 pub returns-then-s-end : goal.returns-then-s-end

@@ -1,5 +1,4 @@
 use Rattle.ty.proofs.Strict.{line-long, line_read, line-bad}
-use borrow.Author.Rules.{rules}
 use Rattle.ty.proofs.reader.is_type_line.Goals as goal
 
 pub returns-then-s-gt-TYPE_LIMIT : goal.returns-then-s-gt-TYPE_LIMIT

@@ -1,6 +1,5 @@
 use borrow.Author.Tests.{eq-eqb, ne_eqb}
 use Rattle.ty.specs.Read.{allowed, key_end}
-use borrow.Author.Rules.{rules}
 use Rattle.ty.proofs.reader.member_allowed.Goals as goal
 
 pub returns-then-s-q-eq-UNION : goal.returns-then-s-q-eq-UNION

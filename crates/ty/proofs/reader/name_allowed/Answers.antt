@@ -1,7 +1,5 @@
 use mathlib.Core.Path.{sym, ◌∙◌}
-use borrow.Author.Tests.{not-true, not-false}
 use Rattle.ty.specs.Read.{allowed, key_end}
-use borrow.Author.Rules.{rules}
 use Rattle.ty.proofs.reader.name_allowed.Goals as goal
 
 pub returns-then-not-is_name : goal.returns-then-not-is_name

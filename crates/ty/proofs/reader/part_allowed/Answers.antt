@@ -1,6 +1,5 @@
 use borrow.Author.Tests.{ne_eqb}
 use Rattle.ty.specs.Read.{allowed, key_end}
-use borrow.Author.Rules.{rules}
 use Rattle.ty.proofs.reader.part_allowed.Goals as goal
 
 pub returns-then-k-eq-MAP : goal.returns-then-k-eq-MAP

@@ -1,6 +1,5 @@
 use native.Mathlib.Omega.{arith}
 use Rattle.ty.proofs.Strict.{flat-two, flat-none, flat-base, flat-node, flat-rel}
-use borrow.Author.Rules.{rules}
 use Rattle.ty.proofs.reader.read_flat.Goals as goal
 
 pub overflow_add-result : goal.overflow_add-result

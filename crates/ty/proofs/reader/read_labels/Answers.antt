@@ -1,9 +1,6 @@
 use mathlib.Core.Path.{sym, ◌∙◌}
-use borrow.Author.Tests.{not-true, not-false}
-use Prim.Native.Nat.{◌-◌}
 use native.Mathlib.Omega.{arith}
-use lib.ListN.{length}
-use Rattle.ty.proofs.Labels.{Naming, naming, name-refused, name-comma, name-on, names-end}
+use Rattle.ty.proofs.Labels.{naming, name-refused, name-comma, name-on, names-end}
 use Rattle.ty.proofs.reader.read_labels.Goals as goal
 
 pub loop-at-init : goal.loop-at-init

@@ -1,9 +1,7 @@
 use mathlib.Core.Path.{sym, ◌∙◌}
-use borrow.Author.Tests.{not-true, not-false}
 use native.Mathlib.Omega.{arith}
 use Rattle.ty.proofs.Fields.{field-yes}
 use Rattle.ty.proofs.Labels.{rel-none, rel-bad, rel-some, rel-unnamed}
-use borrow.Author.Rules.{rules}
 use Rattle.ty.proofs.reader.read_relationship.Goals as goal
 
 pub overflow_add-result : goal.overflow_add-result

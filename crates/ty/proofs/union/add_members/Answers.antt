@@ -1,5 +1,4 @@
-use Prim.Native.Nat.{◌-◌}
-use Rattle.ty.proofs.UnionLaws.{AddInv, add_start, add-pending, add-less, add-again, add-members, add-grew}
+use Rattle.ty.proofs.UnionLaws.{add-pending, add-less, add-again, add-members, add-grew}
 use Rattle.ty.proofs.union.add_members.Goals as goal
 
 pub add_next-next-requires : goal.add_next-next-requires

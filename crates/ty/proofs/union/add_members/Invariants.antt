@@ -1,5 +1,5 @@
 use Prim.Native.Nat.{◌-◌}
-use Rattle.ty.proofs.UnionLaws.{AddInv, add_start, add-pending, add-less, add-again, add-members, add-grew}
+use Rattle.ty.proofs.UnionLaws.{AddInv}
 use Rattle.ty.proofs.union.add_members.Given as goal
 
 abbrev pub invariant-loop-n : goal.invariant-loop-n

@@ -1,6 +1,5 @@
 use mathlib.Core.Logic.{inl}
 use native.Mathlib.Omega.{arith}
-use borrow.Author.Rules.{rules}
 use Rattle.ty.proofs.UnionLaws.{next-from, next-bounds, next-placing, next-slot, next-at, next-moved, next-kept, goes_at, goes-there}
 use Rattle.ty.proofs.union.add_next.Goals as goal
 

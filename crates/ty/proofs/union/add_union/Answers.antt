@@ -1,6 +1,5 @@
 use mathlib.Core.Logic.{inl}
 use native.Mathlib.Omega.{arith}
-use borrow.Author.Rules.{rules}
 use Rattle.ty.proofs.UnionEnds.{type-room, opened-room, opened-adding, opened-grew, plain-adding, plain-grew}
 use Rattle.ty.proofs.union.add_union.Goals as goal
 

@@ -1,7 +1,4 @@
-use lib.Seq.{length-take-le}
-use mathlib.Core.Path.{sym}
-use borrow.Author.Rules.{rules}
-use Rattle.ty.proofs.UnionEnds.{closing-room, closing-line, closed-fits, closed-large}
+use Rattle.ty.proofs.UnionEnds.{closing-line}
 use Rattle.ty.proofs.union.close_union.Goals as goal
 
 pub fits-requires : goal.fits-requires

@@ -1,10 +1,8 @@
 use mathlib.Core.Path.{sym, ◌∙◌, ap}
-use Prim.Native.Nat.{◌-◌}
 use native.Mathlib.Omega.{arith}
-use borrow.Author.Rules.{rules}
 use Rattle.text.specs.Text.{order_of}
 use Rattle.ty.proofs.KindLaws.{two_at}
-use Rattle.ty.proofs.UnionLaws.{PlaceInv, place-from, place_end, reached-start, reached-more, more-on, more-below, more-there, more-here, reached-end}
+use Rattle.ty.proofs.UnionLaws.{place-from, place_end, reached-start, reached-more, more-on, more-below, more-there, more-here, reached-end}
 use Rattle.ty.proofs.union.place.Goals as goal
 
 pub head_of-x-requires : goal.head_of-x-requires

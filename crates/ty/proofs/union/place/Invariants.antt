@@ -1,10 +1,5 @@
-use mathlib.Core.Path.{sym, ◌∙◌, ap}
 use Prim.Native.Nat.{◌-◌}
-use native.Mathlib.Omega.{arith}
-use borrow.Author.Rules.{rules}
-use Rattle.text.specs.Text.{order_of}
-use Rattle.ty.proofs.KindLaws.{two_at}
-use Rattle.ty.proofs.UnionLaws.{PlaceInv, place-from, place_end, reached-start, reached-more, more-on, more-below, more-there, more-here, reached-end}
+use Rattle.ty.proofs.UnionLaws.{PlaceInv}
 use Rattle.ty.proofs.union.place.Given as goal
 
 abbrev pub invariant-loop-q : goal.invariant-loop-q

@@ -1,4 +1,3 @@
-use borrow.Author.Rules.{rules}
 use Rattle.ty.proofs.UnionEnds.{line-none, line-many, line-one, above_zero}
 use Rattle.ty.proofs.UnionLaws.{front-from}
 use Rattle.ty.proofs.union.union_line.Goals as goal

@@ -1,7 +1,6 @@
 use mathlib.Core.Bool.{Bool}
 use mathlib.Core.Path.{sym, ap}
 use native.Mathlib.Omega.{arith}
-use borrow.Author.Rules.{rules}
 use Rattle.ty.proofs.UnionLaws.{front-from, size-short, size-long, size-two, size-one}
 use Rattle.ty.specs.Union.{grown}
 use Rattle.ty.proofs.union.union_size.Goals as goal

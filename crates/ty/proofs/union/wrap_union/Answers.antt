@@ -1,7 +1,4 @@
-use lib.ListN.{length-set}
 use mathlib.Core.Path.{refl}
-use native.Mathlib.Omega.{arith}
-use borrow.Author.Rules.{rules}
 use Rattle.ty.proofs.UnionEnds.{wrap-law}
 use Rattle.ty.proofs.union.wrap_union.Goals as goal
 
