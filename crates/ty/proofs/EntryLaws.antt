@@ -1,20 +1,18 @@
 -- An entry goes into a map line: where, and the bytes that are moved. Assumes nothing.
 use Prim.Native.Nat.{Ordering}
-use Prim.Native.Nat.{ℕ, suc, zero, ◌+◌, ◌-◌, ◌≤◌, ◌<◌}
-use native.Mathlib.Nat.{add-zero}
-use native.Mathlib.Numerals.{add-one}
+use Prim.Native.Nat.{ℕ, suc, ◌+◌, ◌-◌, ◌≤◌, ◌<◌}
 use native.Mathlib.Omega.{arith}
 use mathlib.Core.Path.{◌≡◌, refl, sym, ap, ap₂, ◌∙◌}
-use mathlib.Core.Bool.{Bool, true, false, ◌||◌, not, false≢true}
-use mathlib.Core.List.{List, [], ◌∷◌, ◌++◌, map, append_assoc}
-use mathlib.Core.Option.{Option, none, some}
-use borrow.Author.Tests.{lt-ltb, le-ltb, ltb-true, ltb-false}
+use mathlib.Core.Bool.{Bool, true, false, not, false≢true}
+use mathlib.Core.List.{[], ◌∷◌, ◌++◌, map, append_assoc}
+use mathlib.Core.Option.{some}
+use borrow.Author.Tests.{lt-ltb, le-ltb, ltb-false}
 use lib.Dec.{ltb}
-use lib.ListN.{length, take, drop, set, length-append, length-take, length-drop, length-set, length-map}
-use lib.Seq.{slice, sets, length-slice, length-sets, length-take-le, take-take, take_at, drop_at, drop-drop, drop-append_seam, take-append_seam}
+use lib.ListN.{length, take, drop, set, length-append, length-take, length-set}
+use lib.Seq.{slice, sets, length-slice, length-sets, length-take-le, take-take, take_at, drop_at, drop-drop}
 use Rattle.semantics.specs.Bytes.{Bytes, lex, hex}
-use Rattle.semantics.specs.Ty.{Ty, t_map, Fields, ∅ᶠ, field, name_to, line_to, fields_to, line, nesting, too_large, set_field}
-use Rattle.semantics.proofs.Order.{Less, lex-lt, lex-gt, lex-eq, Tri, lt, eq, gt, tri, set-lt, set-eq, set-gt}
+use Rattle.semantics.specs.Ty.{Ty, t_map, Fields, ∅ᶠ, field, name_to, line_to, fields_to, line, too_large, set_field}
+use Rattle.semantics.proofs.Order.{lex-lt, lex-gt, lex-eq, Tri, lt, eq, gt, tri, set-lt, set-eq, set-gt}
 use Rattle.text.specs.Text.{rotated, Ends, order_of}
 use Rattle.text.specs.declared.Order.{Order}
 use Rattle.text.specs.declared.Order.TheVariants.{Less as Before, Same, More}

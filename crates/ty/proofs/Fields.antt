@@ -97,7 +97,7 @@ content_t (t_union ts) = 4
 
 pub content-kind : (t : Ty) → content_of (kind_of t) ≡ content_t t
 unfolding content_of kind_of content_t letter base_in
-content-kind (base b) = elim b [ t_any ↦ refl | t_null ↦ refl | t_bool ↦ refl | t_int ↦ refl | t_float ↦ refl | t_num ↦ refl | t_string ↦ refl | t_date ↦ refl | t_datetime ↦ refl | t_path ↦ refl | t_unknown ↦ refl ]
+content-kind (base b) = elim b as (λ k. content_of (kind_of (base k)) ≡ content_t (base k)) [ t_any ↦ refl | t_null ↦ refl | t_bool ↦ refl | t_int ↦ refl | t_float ↦ refl | t_num ↦ refl | t_string ↦ refl | t_date ↦ refl | t_datetime ↦ refl | t_path ↦ refl | t_unknown ↦ refl ]
 content-kind (t_list t) = refl
 content-kind (t_map fs) = refl
 content-kind (t_node ls) = refl

@@ -1,9 +1,9 @@
 -- A type line begins with its kind letter and a comma; the names of the kinds. Assumes nothing.
-use Prim.Native.Nat.{ℕ, suc, zero, ◌+◌, ◌-◌, ◌≤◌, ◌<◌}
+use Prim.Native.Nat.{ℕ, ◌+◌, ◌≤◌}
 use native.Mathlib.Omega.{arith}
 use mathlib.Core.Path.{◌≡◌, refl, sym, ap, ◌∙◌}
-use mathlib.Core.List.{List, [], ◌∷◌}
-use lib.ListN.{length, get_or, drop, take}
+use mathlib.Core.List.{[]}
+use lib.ListN.{length, get_or}
 use lib.Seq.{slice-cons, length-slice, sets}
 use Rattle.semantics.specs.Bytes.{Bytes, text}
 use Rattle.semantics.specs.Ty.{Base, t_any, t_null, t_bool, t_int, t_float, t_num, t_string, t_date, t_datetime, t_path, t_unknown, Ty, base, t_list, t_map, t_node, t_relationship, t_union, letter, line}

@@ -1,6 +1,5 @@
 -- Label sets merged: the names of both in order, each once. Assumes nothing.
-use Prim.Native.Nat.{ℕ, suc, zero, ◌+◌, ◌-◌, ◌≤◌, ◌<◌}
-use native.Mathlib.Numerals.{add-one}
+use Prim.Native.Nat.{ℕ, ◌+◌, ◌-◌, ◌≤◌, ◌<◌}
 use native.Mathlib.Omega.{arith}
 use mathlib.Core.Path.{◌≡◌, refl, sym, ap, ap₂, ◌∙◌}
 use mathlib.Core.Bool.{Bool, true, false, ◌||◌}
@@ -8,18 +7,15 @@ use mathlib.Core.List.{List, [], ◌∷◌, ◌++◌, append_assoc}
 use mathlib.Core.Option.{Option, none, some}
 use borrow.Author.Tests.{ltb-false}
 use lib.Dec.{ltb}
-use lib.ListN.{length, take, drop, length-append}
+use lib.ListN.{length, take, drop}
 use lib.Seq.{slice, sets, length-sets}
-use Rattle.semantics.specs.Limits.{type_limit, nesting_limit}
-use Rattle.semantics.specs.Bytes.{Bytes, lex}
+use Rattle.semantics.specs.Bytes.{Bytes}
 use Rattle.semantics.specs.Ty.{Ty, t_node, name_to, names_to, labels_to, line_to, line, nesting, too_large, insert_name, insert_names}
 use Rattle.semantics.proofs.Order.{Less, less-trans, lex-lt, lex-gt, lex-eq, Tri, lt, eq, gt, tri}
 use Rattle.semantics.proofs.Regular.{Above, Ascends, ascends-sound}
-use Rattle.text.proofs.Laws.{take-slice, drop-slice, copied, length_part, take_below}
+use Rattle.text.proofs.Laws.{copied, take_below}
 use Rattle.ty.specs.declared.Grown.{Grown}
-use Rattle.ty.specs.declared.Grown.TheVariants.{Len, TooLarge}
 use Rattle.ty.specs.declared.merging.Merge.{Merge}
-use Rattle.ty.specs.Parts.{TypeAt}
 use Rattle.ty.specs.Made.{Made, made}
 use Rattle.ty.specs.Merging.{Kept, head_to, HeadAt, SomeHead, next_of, NextIs, SomeName, NameLong, kept_of, kept_text, taken_at, moved, Taking, closed_of, closed_text, LabelsAt, SomeLabels}
 use Rattle.ty.proofs.NameLaws.{name-append, name-long}

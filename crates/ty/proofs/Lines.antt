@@ -172,7 +172,7 @@ special c = eqb c 33 || (eqb c 44 || (eqb c 74 || (eqb c 75 || (eqb c 76 || (eqb
 
 letter-plain : (b : Base) → special (letter b) ≡ false
 unfolding letter special
-letter-plain b = elim b [ t_any ↦ refl | t_null ↦ refl | t_bool ↦ refl | t_int ↦ refl | t_float ↦ refl | t_num ↦ refl | t_string ↦ refl | t_date ↦ refl | t_datetime ↦ refl | t_path ↦ refl | t_unknown ↦ refl ]
+letter-plain b = elim b as (λ k. special (letter k) ≡ false) [ t_any ↦ refl | t_null ↦ refl | t_bool ↦ refl | t_int ↦ refl | t_float ↦ refl | t_num ↦ refl | t_string ↦ refl | t_date ↦ refl | t_datetime ↦ refl | t_path ↦ refl | t_unknown ↦ refl ]
 
 pub letter-away : (b : Base) (c : ℕ) → special c ≡ true → letter b ≡ c → ⊥
 letter-away b c h e = false≢true (sym (letter-plain b) ∙ ap special e ∙ h)

@@ -1,19 +1,19 @@
 -- Names in a text: where one ends, how two compare, what tells a name from the end of a list. Assumes nothing.
-use Prim.Native.Nat.{ℕ, suc, zero, ◌+◌, ◌-◌, ◌≤◌, ◌<◌}
+use Prim.Native.Nat.{ℕ, suc, ◌+◌, ◌≤◌, ◌<◌}
 use native.Mathlib.Nat.{add-zero}
 use native.Mathlib.Omega.{arith}
 use mathlib.Core.Path.{◌≡◌, refl, sym, ap, ap₂, ◌∙◌}
 use mathlib.Core.Bool.{Bool, true, false, cond}
-use mathlib.Core.List.{List, [], ◌∷◌, ◌++◌, map}
+use mathlib.Core.List.{[], ◌∷◌, ◌++◌, map}
 use mathlib.Core.Option.{Option, none, some}
 use borrow.Author.Tests.{ltb-true, ltb-false}
-use lib.Dec.{eqb, ltb}
+use lib.Dec.{ltb}
 use lib.ListN.{length, take, drop, get_or, length-drop, length-append, length-map}
-use lib.Seq.{slice, get_or-drop, drop-drop}
+use lib.Seq.{slice, get_or-drop}
 use Rattle.text.specs.Text.{index_of}
 use Rattle.semantics.specs.Bytes.{Bytes, lex, hex}
 use Rattle.semantics.specs.Ty.{name_to}
-use Rattle.semantics.proofs.Order.{Less, ends, here, next, lex-lt, lex-gt, lex-eq, Tri, lt, eq, gt, tri, hex-low, head-eq}
+use Rattle.semantics.proofs.Order.{Less, ends, here, next, lex-lt, lex-gt, lex-eq, Tri, lt, eq, gt, tri, hex-low}
 use Rattle.text.specs.Text.{Ends, order_of}
 use Rattle.text.specs.declared.Order.{Order}
 use Rattle.text.proofs.Laws.{take-drop}

@@ -9,7 +9,7 @@ use lib.ListN.{length, take, drop, length-append}
 use lib.Seq.{slice, sets, drop-drop}
 use borrow.Author.Tests.{lt-ltb, le-ltb}
 use Rattle.semantics.specs.Bytes.{Bytes, lex}
-use Rattle.semantics.specs.Ty.{Ty, line_to, line, insert, inserts, members, pack, joined}
+use Rattle.semantics.specs.Ty.{Ty, line_to, line, insert, inserts, pack, joined}
 use Rattle.text.specs.Text.{rotated}
 use Rattle.text.proofs.Laws.{sets-parts, drop-above}
 use Rattle.semantics.specs.Limits.{type_limit}

@@ -1,5 +1,5 @@
 -- An entry goes into a map line at the front of a text: what the contracts of map.rt cite.
-use Rattle.std.specs.Prelude.{ℕ, ◌+◌, ◌-◌, ◌≤◌, ◌≡◌, List, [], ◌∷◌, ◌++◌, map, ltb, length, take, drop}
+use Rattle.std.specs.Prelude.{ℕ, ◌≤◌, ◌≡◌, ◌∷◌, ◌++◌, map, ltb, length, take, drop}
 use Rattle.std.proofs.Math.Seq.{slice}
 use Rattle.semantics.specs.Codes.{comma}
 use Rattle.semantics.specs.Limits.{type_limit}

@@ -1,0 +1,11 @@
+use Rattle.ty.proofs.Lines.{list-room, list-part}
+use Rattle.ty.proofs.element.Goals as goal
+
+pub slice_bounds-result-count : goal.slice_bounds-result-count
+slice_bounds-result-count c = list-room _ _ c.requires.is
+
+pub slice_bounds-result-start : goal.slice_bounds-result-start
+slice_bounds-result-start c = list-room _ _ c.requires.is
+
+pub returns : goal.returns
+returns c = λ t e. list-part _ t e

@@ -1,0 +1,38 @@
+use mathlib.Core.Path.{sym, ◌∙◌}
+use native.Mathlib.Omega.{arith}
+use Rattle.ty.proofs.Fields.{type-two}
+use Rattle.ty.proofs.Loops.{nested, nested-none, nested-flat, nested-from, nested-bad, nested-on, nested-less, nested-list, nested-closed, content-four}
+use Rattle.ty.proofs.end.+nesting_end.Goals as goal
+
+pub returns-then-left-eq0 : goal.returns-then-left-eq0
+returns-then-left-eq0 t c = nested-none _ _ _ c.if-left-eq0.true
+
+pub bounds-s-at : goal.bounds-s-at
+bounds-s-at t c = let a = c in omega (arith, (type-two a.args.s.now a.args.at a.requires).1)
+
+pub returns-then-content-lt-TYPES : goal.returns-then-content-lt-TYPES
+returns-then-content-lt-TYPES t c = let a = c in nested-flat _ _ _ _ _ c.if-left-eq0.false c.content.ensures c.if-content-lt-TYPES.true c.type_end.ensures
+
+pub overflow_add-q : goal.overflow_add-q
+overflow_add-q t c = let a = c in omega (arith, (type-two a.args.s.now a.args.at a.requires).1)
+
+pub loop-v-init : goal.loop-v-init
+loop-v-init t c = let a = c in nested _ _ _ _ c.if-left-eq0.false a.requires (type-two a.args.s.now a.args.at a.requires) (content-four _ _ c.content.ensures c.if-content-lt-TYPES.false)
+
+pub nesting_end-requires : goal.nesting_end-requires
+nesting_end-requires t c = let a = c in (omega (arith, c.loop-v.invariant.reads.deep), rw c.value_at-v.ensures (nested-from _ _ _ _ _ _ c.loop-v.invariant (sym c.part_follows.ensures ∙ c.loop-v-test.true)))
+
+pub returns-in-Bad : goal.returns-in-Bad
+returns-in-Bad t c = nested-bad _ _ _ _ _ _ c.loop-v.invariant (sym c.part_follows.ensures ∙ c.loop-v-test.true) _ (rw c.value_at-v.ensures at c.nesting_end.ensures) c.in-Bad.is
+
+pub loop-v-smaller : goal.loop-v-smaller
+loop-v-smaller t c = omega (arith, nested-less _ _ _ _ _ _ c.loop-v.invariant (sym c.part_follows.ensures ∙ c.loop-v-test.true) _ _ (rw c.value_at-v.ensures at c.nesting_end.ensures) c.in-End.is)
+
+pub loop-v-preserved : goal.loop-v-preserved
+loop-v-preserved t c = nested-on _ _ _ _ _ _ c.loop-v.invariant (sym c.part_follows.ensures ∙ c.loop-v-test.true) _ _ (rw c.value_at-v.ensures at c.nesting_end.ensures) c.in-End.is
+
+pub returns-then-k-eq-LIST : goal.returns-then-k-eq-LIST
+returns-then-k-eq-LIST t c = nested-list _ _ _ _ _ _ c.loop-v.invariant (sym c.part_follows.ensures ∙ c.loop-v-test.false) c.if-k-eq-LIST.true
+
+pub returns : goal.returns
+returns t c = nested-closed _ _ _ _ _ _ c.loop-v.invariant (sym c.part_follows.ensures ∙ c.loop-v-test.false) c.if-k-eq-LIST.false

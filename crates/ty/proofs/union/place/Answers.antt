@@ -1,0 +1,42 @@
+use mathlib.Core.Path.{sym, ◌∙◌, ap}
+use native.Mathlib.Omega.{arith}
+use Rattle.text.specs.Text.{order_of}
+use Rattle.ty.proofs.KindLaws.{two_at}
+use Rattle.ty.proofs.UnionLaws.{place-from, place_end, reached-start, reached-more, more-on, more-below, more-there, more-here, reached-end}
+use Rattle.ty.proofs.union.place.Goals as goal
+
+pub head_of-x-requires : goal.head_of-x-requires
+head_of-x-requires c = let p = c.requires in (two_at _ _ _ p.new.ty p.new.at, p.new.at.inside)
+
+pub loop-q-init : goal.loop-q-init
+loop-q-init c = record { below = omega arith; reached = λ ms x f g. reached-start ms x }
+
+pub type_end-e-requires : goal.type_end-e-requires
+type_end-e-requires c = place-from c.requires c.loop-q.invariant c.loop-q-test.true
+
+pub is_below-requires : goal.is_below-requires
+is_below-requires c = let p = c.requires in (c.loop-q-test.true, omega (arith, two_at _ _ _ p.new.ty p.new.at, p.new.at.inside))
+
+pub loop-q-smaller-then-is_below : goal.loop-q-smaller-then-is_below
+loop-q-smaller-then-is_below c = omega (arith, place_end c.requires c.loop-q.invariant c.loop-q-test.true c.type_end-e.ensures)
+
+pub loop-q-preserved-then-is_below : goal.loop-q-preserved-then-is_below
+loop-q-preserved-then-is_below c = record { below = (place_end c.requires c.loop-q.invariant c.loop-q-test.true c.type_end-e.ensures).1; reached = λ ms x f g. more-below (reached-more f (c.loop-q.invariant.reached ms x f g) c.loop-q-test.true) g c.type_end-e.ensures (c.is_below.ensures c.if-is_below.true _ c.head_of-x.ensures) }
+
+pub compare_in-requires : goal.compare_in-requires
+compare_in-requires c = let e = place_end c.requires c.loop-q.invariant c.loop-q-test.true c.type_end-e.ensures in (omega arith, omega arith, e.2, e.3)
+
+pub loop-q-smaller : goal.loop-q-smaller
+loop-q-smaller c = omega (arith, place_end c.requires c.loop-q.invariant c.loop-q-test.true c.type_end-e.ensures)
+
+pub loop-q-preserved : goal.loop-q-preserved
+loop-q-preserved c = record { below = (place_end c.requires c.loop-q.invariant c.loop-q-test.true c.type_end-e.ensures).1; reached = λ ms x f g. more-on (reached-more f (c.loop-q.invariant.reached ms x f g) c.loop-q-test.true) g c.type_end-e.ensures (sym c.compare_in.ensures ∙ ap order_of c.in-Less.is) }
+
+pub returns-in-Same : goal.returns-in-Same
+returns-in-Same c = λ ms x f g. more-there (reached-more f (c.loop-q.invariant.reached ms x f g) c.loop-q-test.true) g c.type_end-e.ensures (sym c.compare_in.ensures ∙ ap order_of c.in-Same.is)
+
+pub returns-in-More : goal.returns-in-More
+returns-in-More c = λ ms x f g. more-here (reached-more f (c.loop-q.invariant.reached ms x f g) c.loop-q-test.true) g c.type_end-e.ensures (sym c.compare_in.ensures ∙ ap order_of c.in-More.is)
+
+pub returns : goal.returns
+returns c = λ ms x f g. reached-end f (c.loop-q.invariant.reached ms x f g) c.loop-q-test.false
