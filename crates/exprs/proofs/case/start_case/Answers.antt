@@ -1,0 +1,6 @@
+use Rattle.exprs.proofs.StateLaws.{arms-is}
+use borrow.Author.Rules.{rules}
+use Rattle.exprs.proofs.case.start_case.Goals as goal
+
+pub returns : goal.returns
+returns c = arms-is c.state.ensures

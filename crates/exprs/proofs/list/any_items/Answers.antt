@@ -1,0 +1,6 @@
+use Rattle.exprs.proofs.ItemLaws.{any-kept}
+use borrow.Author.Rules.{rules}
+use Rattle.exprs.proofs.list.any_items.Goals as goal
+
+pub returns : goal.returns
+returns c = any-kept c.requires c.state.ensures

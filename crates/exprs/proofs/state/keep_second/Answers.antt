@@ -1,0 +1,6 @@
+use Rattle.exprs.proofs.StateLaws.{second-new}
+use borrow.Author.Rules.{rules}
+use Rattle.exprs.proofs.state.keep_second.Goals as goal
+
+pub returns : goal.returns
+returns c = second-new c.state.ensures
