@@ -111,7 +111,7 @@ fn calls_as_records() {
     };
     assert_eq!(
         record(&fact),
-        r#"record { question = unified (text "D,") (text "D"); lent = sized 3 2048; number = 2; first = 0; second = 0; left = as-lent }"#
+        r#"record { question = unified (text "D,") (text "D"); lent = sized 3 2048; number = 2; first = 0; second = 0; left = as_lent }"#
     );
 }
 

@@ -80,7 +80,7 @@ Quiet ps = (j : ℕ) → role_no (get_or ps j plain) ≡ 0
 quiet_role : Role → Bool
 quiet_role p = eqb (role_no p) 0
 
--- a case_word or a comprehension
+-- a CASE or a comprehension
 asking : ℕ → Bool
 asking n = eqb n 44 || (eqb n 48 || eqb n 49)
 
@@ -97,7 +97,7 @@ module _ (s : Bytes) (h : Seen) (hd : Head) (i : HeadIs s h hd) (j : ℕ) where
   unfolding roles
   other-role n m = sym (others hd.word hd.nums (λ e. n (i.word ∙ e)) (λ e. m (rw i.word e)) j)
 
--- ## case_word
+-- ## CASE
 
 odd-or-even : (i : ℕ) → (i % 2 ≡ 1 → ⊥) → i % 2 ≡ 0
 odd-or-even i n = omega arith
@@ -144,7 +144,7 @@ scrutinee-bit (suc zero) ps zero h l = refl
 scrutinee-bit (suc zero) ps (suc j) h l = absurd (omega arith)
 scrutinee-bit (suc (suc b)) ps j h l = absurd (omega arith)
 
--- the j-th child of a case_word: the scrutinee; else the i-th behind it
+-- the j-th child of a CASE: the scrutinee; else the i-th behind it
 abbrev arms_of : ℕ → ℕ → List Role
 arms_of f k = arm_roles (cond (eqb (f % 2) 0) condition plain) k (present (f / 2) answer [])
 

@@ -1,4 +1,4 @@
--- Two arms of a case_word exchanged, and two entries of a map literal whose names all differ: the same type, the same faults each as often.
+-- Two arms of a CASE exchanged, and two entries of a map literal whose names all differ: the same type, the same faults each as often.
 use mathlib.Core.Path.{◌≡◌, refl, sym, ◌∙◌, ap, ap₂}
 use mathlib.Core.List.Memᴰ
 use mathlib.Core.List.{List, [], ◌∷◌, ◌++◌, map as map_l, append_assoc, Memᴰ}
@@ -103,7 +103,7 @@ present-length zero p a h = omega arith
 present-length (suc zero) p a h = omega arith
 present-length (suc (suc b)) p a h = absurd (omega arith)
 
--- the roles under a case_word, around two of its arms
+-- the roles under a CASE, around two of its arms
 record CaseParts (f c i j : ℕ) : Type 0 where
   ps : List Role
   g : List Role

@@ -113,7 +113,7 @@ abbrev pub Distinct : List Bytes → Type 0
 Distinct [] = Unit {0}
 Distinct (n ∷ ns) = (Memᴰ n ns → ⊥) × Distinct ns
 
--- exchanges: the operands x and y of a binary operator; two arms x and y of one case_word, each a pair, with i pairs before the first (and
+-- exchanges: the operands x and y of a binary operator; two arms x and y of one CASE, each a pair, with i pairs before the first (and
 -- the scrutinee, if there is one) and j between; two entries of a map literal whose names all differ
 pub data Exchange : List Head → List Head → Type 0 where
   operands : (pre post x y : List Head) (ns : List ℕ) → Whole 1 x → Whole 1 y

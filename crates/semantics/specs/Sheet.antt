@@ -48,7 +48,7 @@ pub data Rule : Type 0 where
 
 -- what hangs under a line, as a form that its numbers fill (`kids` below): nothing; one of a role; two expressions; a role as often as the
 -- number at i says; likewise, and then an expression by the bit at j; a first child, a condition by the bit at j, and an expression; an
--- expression, and one more by the bit at j; an expression, and a role as often as the number at i says; a list and its bounds; the arms of a case_word
+-- expression, and one more by the bit at j; an expression, and a role as often as the number at i says; a list and its bounds; the arms of a CASE
 pub data Shape : Type 0 where
   nothing two bounds arms : Shape
   one : Role → Shape
@@ -93,7 +93,7 @@ unfoldable pub arm_roles : Role → ℕ → List Role → List Role
 arm_roles c zero r = r
 arm_roles c (suc n) r = c ∷ answer ∷ arm_roles c n r
 
--- case_word: a condition must be a Bool where there is no scrutinee
+-- CASE: a condition must be a Bool where there is no scrutinee
 abbrev pub case_roles : List ℕ → List Role
 case_roles ns =
     let f = get_or ns 0 0 in

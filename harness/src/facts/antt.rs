@@ -127,7 +127,7 @@ pub fn record(fact: &Fact) -> String {
     let left = match &settled.left {
         Left::Wrote(text) => format!("wrote ({})", bytes(text)),
         Left::Zeroed => "zeroed".to_string(),
-        Left::AsLent => "as-lent".to_string(),
+        Left::AsLent => "as_lent".to_string(),
     };
     format!(
         "record {{ question = {question}; lent = {lent}; number = {}; first = {}; second = {}; left = {left} }}",
@@ -137,9 +137,9 @@ pub fn record(fact: &Fact) -> String {
 
 const USES: &str = "\
 use mathlib.Core.Path.{refl}
-use mathlib.Core.List.{List, [], _∷_, _++_}
-use Rattle·semantics.specs.Bytes.{text}
-use Rattle·semantics.proofs.Cases.{Case, Pass, typed, unified, output, sized, wrote, zeroed, as-lent, reply, expected}
+use mathlib.Core.List.{List, [], ◌∷◌, ◌++◌}
+use Rattle.semantics.specs.Bytes.{text}
+use Rattle.semantics.proofs.Cases.{Case, Pass, typed, unified, output, sized, wrote, zeroed, as_lent, reply, expected}
 ";
 
 /// A module that says that the calls answer as these facts say: one list, one computation.
@@ -160,11 +160,11 @@ pub(super) fn seen_module(case: &Case) -> String {
     match case {
         Case::Sheet { sheet, .. } => format!(
             "\
-use mathlib.Core.Path.{{_≡_, refl}}
-use mathlib.Core.List.{{[], _∷_, _++_}}
-use Rattle·semantics.specs.Bytes.{{text}}
-use Rattle·semantics.specs.Calls.{{refusal}}
-use Rattle·semantics.proofs.Run.{{run}}
+use mathlib.Core.Path.{{◌≡◌, refl}}
+use mathlib.Core.List.{{[], ◌∷◌, ◌++◌}}
+use Rattle.semantics.specs.Bytes.{{text}}
+use Rattle.semantics.specs.Calls.{{refusal}}
+use Rattle.semantics.proofs.Run.{{run}}
 
 pub seen : run ({}) ≡ refusal 0 0
 unfolding run text
@@ -174,15 +174,15 @@ seen = refl
         ),
         Case::Pair { a, b, .. } => format!(
             "\
-use mathlib.Core.Path.{{_≡_, refl}}
-use mathlib.Core.List.{{[], _∷_, _++_}}
-use Rattle·semantics.specs.Bytes.{{text}}
-use Rattle·semantics.specs.Ty.{{typeLine}}
-use Rattle·semantics.specs.Calls.{{unifyTypes, untouched}}
-use Rattle·semantics.proofs.Run.{{run, runUnify}}
+use mathlib.Core.Path.{{◌≡◌, refl}}
+use mathlib.Core.List.{{[], ◌∷◌, ◌++◌}}
+use Rattle.semantics.specs.Bytes.{{text}}
+use Rattle.semantics.specs.Ty.{{type_line}}
+use Rattle.semantics.specs.Calls.{{unify_types, untouched}}
+use Rattle.semantics.proofs.Run.{{run, run_unify}}
 
-pub seen : unifyTypes (typeLine ({})) (typeLine ({})) [] [] ≡ untouched 999 [] []
-unfolding runUnify run typeLine unifyTypes text
+pub seen : unify_types (type_line ({})) (type_line ({})) [] [] ≡ untouched 999 [] []
+unfolding run_unify run type_line unify_types text
 seen = refl
 ",
             bytes(a),

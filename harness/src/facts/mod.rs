@@ -104,7 +104,7 @@ fn explain(scratch: &mut Scratch, group: &[Fact], whole: &Refusal) -> Result<boo
     println!("reference: {}", Settled::of(&least));
     scratch.write_crate("seen", [antt::seen_module(&least)])?;
     println!(
-        "definition (`rt check seen` in the scratch repository), where the message says 'found':"
+        "definition (`rt check` in crates/seen of the scratch repository), where the message says 'found':"
     );
     for error in scratch.check("seen")?.errors {
         println!("{}", readable(&error.text));

@@ -12,7 +12,9 @@ use std::process::{self, Command};
 const CASES: &str = "Cases";
 
 /// The function that a crate must have.
-const FUNCTION: &str = "// The function is the place where the check starts.
+const FUNCTION: &str = "#![tactic(auto)]
+
+// The function is the place where the check starts.
 pub fn facts_hold() -> bool {
     true
 }
@@ -141,7 +143,7 @@ impl Scratch {
 
     /// Has the checker prove a crate.
     pub fn check(&self, name: &str) -> Result<Checked, String> {
-        let (admitted, output) = rt(&self.folder, &["check", name])?;
+        let (admitted, output) = rt(&self.folder.join("crates").join(name), &["check"])?;
         let errors = refusals(&output);
         Ok(Checked {
             admitted,
@@ -239,7 +241,7 @@ fn needed_modules(proofs: &Path) -> io::Result<BTreeSet<String>> {
     while let Some(name) = open.pop() {
         let text = fs::read_to_string(proofs.join(format!("{name}.antt")))?;
         for line in text.lines() {
-            if let Some(rest) = line.strip_prefix("use Rattle·semantics·proofs.proofs.") {
+            if let Some(rest) = line.strip_prefix("use Rattle.semantics.proofs.") {
                 let end = rest.find('.').unwrap_or(rest.len());
                 open.push(rest[..end].to_string());
             }
