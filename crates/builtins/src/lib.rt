@@ -12,7 +12,7 @@ use ty::{ANY, LIST, MAP, NODE, PATH, RELATIONSHIP, STRING, UNKNOWN};
 // The room for a name in a row: the longest name's bytes.
 const NAME_ROOM: usize = 6;
 
-#[derive(Drop)]
+#[derive(Clone, Copy)]
 pub struct Row {
     pub name: [u8; NAME_ROOM],
     pub len: usize,
