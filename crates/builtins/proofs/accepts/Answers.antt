@@ -1,4 +1,3 @@
-use borrow.Author.Rules.{rules}
 use mathlib.Core.Path.{ap, sym, ◌∙◌}
 use Rattle.builtins.specs.Rows.{shape_of, class_of, accepts_class}
 use Rattle.builtins.proofs.Laws.{class-accepts}

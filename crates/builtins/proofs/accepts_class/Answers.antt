@@ -1,4 +1,3 @@
-use borrow.Author.Rules.{rules}
 use Rattle.semantics.specs.Bytes.{text}
 use Rattle.builtins.proofs.Laws.{marked}
 use Rattle.builtins.proofs.accepts_class.Goals as goal

@@ -1,8 +1,5 @@
-use borrow.Author.Rules.{rules}
 use native.Mathlib.Omega.{arith}
-use mathlib.Core.Path.{sym}
-use lib.Seq.{length-take-le}
-use mathlib.Core.Logic.{inl, inr, ⊎_elim}
+use mathlib.Core.Logic.{inl, inr}
 use Rattle.builtins.proofs.Laws.{first-line, first-long, element-returned, element-other}
 use Rattle.builtins.proofs.list_element.Goals as goal
 use Rattle.builtins.proofs.list_element.Goals.{then-len-gt0+else-part-eq-LIST, else-len-gt0}

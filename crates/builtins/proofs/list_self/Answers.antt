@@ -1,6 +1,5 @@
-use borrow.Author.Rules.{rules}
 use native.Mathlib.Omega.{arith}
-use mathlib.Core.Logic.{inl, inr, ⊎_elim}
+use mathlib.Core.Logic.{inl, inr}
 use Rattle.builtins.proofs.Laws.{self-returned, self-other}
 use Rattle.builtins.proofs.list_self.Goals as goal
 use Rattle.builtins.proofs.list_self.Goals.{then-len-gt0+else-part-eq-LIST, else-len-gt0}

@@ -1,15 +1,9 @@
-use native.Mathlib.Omega.{arith}
-use borrow.Author.Rules.{rules}
 use Prim.Native.Nat.{◌≤◌, ◌-◌}
-use mathlib.Core.Path.{◌≡◌, refl, sym, ap, ◌∙◌}
+use mathlib.Core.Path.{◌≡◌}
 use mathlib.Core.List.{map}
-use mathlib.Core.Bool.{true, false}
 use lib.ListN.{drop}
-use lib.Seq.{length-take-le}
 use Rattle.semantics.specs.Builtins.{builtins, folded, lookup, lookup_in}
 use Rattle.text.specs.Text.{digit_of}
-use Rattle.builtins.specs.Rows.{row_of, builtin_of}
-use Rattle.builtins.proofs.Laws.{row_same, found, passed, unfound}
 use Rattle.builtins.proofs.lookup.Given as goal
 
 abbrev pub invariant-loop-i : goal.invariant-loop-i

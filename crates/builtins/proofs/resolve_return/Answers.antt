@@ -1,6 +1,5 @@
-use borrow.Author.Rules.{rules}
 use native.Mathlib.Omega.{arith}
-use Prim.Native.Nat.{ℕ, ◌≤◌}
+use Prim.Native.Nat.{ℕ}
 use mathlib.Core.Path.{◌≡◌, refl, ◌∙◌, sym}
 use Rattle.semantics.specs.Ty.{t_any, t_int, t_string, base, t_list, line, line_to, letter}
 use Rattle.semantics.specs.Builtins.{resolve_return}
