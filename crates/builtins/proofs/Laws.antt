@@ -1,10 +1,9 @@
 -- Laws of the seven rows, of the search by name, of the classes of types, and of the return type at the front. Assumes nothing.
-use Prim.Native.Nat.{ℕ, zero, suc, ◌+◌, ◌-◌, ◌*◌, ◌≤◌, ◌<◌}
-use native.Mathlib.Numerals.{add-one}
+use Prim.Native.Nat.{ℕ, zero, suc, ◌+◌, ◌*◌, ◌≤◌, ◌<◌}
 use native.Mathlib.Omega.{arith}
-use mathlib.Core.Path.{◌≡◌, refl, sym, ap, ap₂, ◌∙◌}
+use mathlib.Core.Path.{◌≡◌, refl, sym, ap, ◌∙◌}
 use mathlib.Core.List.{List, [], ◌∷◌, map}
-use mathlib.Core.Option.{Option, none, some}
+use mathlib.Core.Option.{some}
 use mathlib.Core.Bool.{Bool, true, false}
 use mathlib.Core.Logic.{◌⊎◌, inl, inr}
 use lib.Dec.{eqb}
@@ -12,7 +11,7 @@ use lib.ListN.{length, take, drop, get_or, get_or-eq_default}
 use lib.Seq.{slice, sets, length-sets, length-slice}
 use Rattle.semantics.specs.Bytes.{Bytes, text, same, unhex, hex}
 use Rattle.semantics.specs.Ty.{Base, t_any, t_null, t_bool, t_int, t_float, t_num, t_string, t_date, t_datetime, t_path, t_unknown, Ty, base, t_list, t_map, t_node, t_relationship, t_union, letter, line_to, line}
-use Rattle.semantics.specs.Builtins.{ArgShape, s_any, s_list, s_string, s_list_or_string, s_graph_entity, s_map, s_graph_entity_or_map, ReturnShape, fixed, list_element, list_self, signature, Builtin, builtin_id, builtin_size, builtin_head, builtin_tail, builtin_last, builtin_keys, builtin_values, builtins, lower, folded, lookup, lookup_in, accepts, accepts_base, describe, element_of, list_or, resolve_return}
+use Rattle.semantics.specs.Builtins.{ArgShape, s_any, s_list, s_string, s_list_or_string, s_graph_entity, s_map, s_graph_entity_or_map, fixed, list_element, list_self, signature, Builtin, builtin_id, builtin_size, builtin_head, builtin_tail, builtin_last, builtin_keys, builtin_values, builtins, lower, lookup, lookup_in, accepts, accepts_base, describe, element_of, list_or, resolve_return}
 use Rattle.semantics.proofs.Named.{Digits}
 use Rattle.text.specs.Text.{digit_of}
 use Rattle.text.proofs.Laws.{slice-sets, drop-slice}
@@ -43,12 +42,12 @@ row-of P {a} {b} {c} {d} {e} {f} {g} z pa pb pc pd pe pf pg i h = seven (λ k. P
 
 pub name-short : (b : Builtin) → length (signature b).name ≤ 6
 unfolding signature text
-name-short b = elim b [ builtin_id ↦ omega arith | builtin_size ↦ omega arith | builtin_head ↦ omega arith | builtin_tail ↦ omega arith | builtin_last ↦ omega arith | builtin_keys ↦ omega arith | builtin_values ↦ omega arith ]
+name-short b = elim b as (λ k. length (signature k).name ≤ 6) [ builtin_id ↦ omega arith | builtin_size ↦ omega arith | builtin_head ↦ omega arith | builtin_tail ↦ omega arith | builtin_last ↦ omega arith | builtin_keys ↦ omega arith | builtin_values ↦ omega arith ]
 
 -- the names are in lower case
 lower-name : (b : Builtin) → map lower (signature b).name ≡ (signature b).name
 unfolding signature text
-lower-name b = elim b [ builtin_id ↦ refl | builtin_size ↦ refl | builtin_head ↦ refl | builtin_tail ↦ refl | builtin_last ↦ refl | builtin_keys ↦ refl | builtin_values ↦ refl ]
+lower-name b = elim b as (λ k. map lower (signature k).name ≡ (signature k).name) [ builtin_id ↦ refl | builtin_size ↦ refl | builtin_head ↦ refl | builtin_tail ↦ refl | builtin_last ↦ refl | builtin_keys ↦ refl | builtin_values ↦ refl ]
 
 -- the test of a turn
 pub row_same : (b : Builtin) (r : Row) (s : Bytes) (x y : Bool) → RowFor b r → x ≡ same s (map lower (take r.len r.name)) → x ≡ y → same s (signature b).name ≡ y
@@ -83,13 +82,13 @@ row-of-number = seven (λ i. row_of (some (builtin_of i)) ≡ i) refl refl refl 
 
 pub number-of-row : (b : Builtin) → builtin_of (row_of (some b)) ≡ b
 unfolding row_of builtin_of
-number-of-row b = elim b [ builtin_id ↦ refl | builtin_size ↦ refl | builtin_head ↦ refl | builtin_tail ↦ refl | builtin_last ↦ refl | builtin_keys ↦ refl | builtin_values ↦ refl ]
+number-of-row b = elim b as (λ k. builtin_of (row_of (some k)) ≡ k) [ builtin_id ↦ refl | builtin_size ↦ refl | builtin_head ↦ refl | builtin_tail ↦ refl | builtin_last ↦ refl | builtin_keys ↦ refl | builtin_values ↦ refl ]
 
 -- ## Shapes
 
 base-class : (s : ArgShape) (b : Base) → accepts_base s b ≡ accepts_class s (class_of (letter b))
 unfolding accepts_base accepts_class class_of letter
-base-class s b = elim b [ t_any ↦ refl | t_null ↦ refl | t_bool ↦ refl | t_int ↦ refl | t_float ↦ refl | t_num ↦ refl | t_string ↦ refl | t_date ↦ refl | t_datetime ↦ refl | t_path ↦ refl | t_unknown ↦ refl ]
+base-class s b = elim b as (λ k. accepts_base s k ≡ accepts_class s (class_of (letter k))) [ t_any ↦ refl | t_null ↦ refl | t_bool ↦ refl | t_int ↦ refl | t_float ↦ refl | t_num ↦ refl | t_string ↦ refl | t_date ↦ refl | t_datetime ↦ refl | t_path ↦ refl | t_unknown ↦ refl ]
 
 pub class-accepts : (s : ArgShape) (t : Ty) → accepts s t ≡ accepts_class s (class_of (kind_of t))
 unfolding accepts accepts_class class_of kind_of
@@ -129,7 +128,7 @@ shape-last n h = get_or-eq_default (s_any ∷ s_list ∷ s_string ∷ s_list_or_
 
 pub describe-short : (s : ArgShape) → length (describe s) ≤ 26
 unfolding describe text
-describe-short s = elim s [ s_any ↦ omega arith | s_list ↦ omega arith | s_string ↦ omega arith | s_list_or_string ↦ omega arith | s_graph_entity ↦ omega arith | s_map ↦ omega arith | s_graph_entity_or_map ↦ omega arith ]
+describe-short s = elim s as (λ k. length (describe k) ≤ 26) [ s_any ↦ omega arith | s_list ↦ omega arith | s_string ↦ omega arith | s_list_or_string ↦ omega arith | s_graph_entity ↦ omega arith | s_map ↦ omega arith | s_graph_entity_or_map ↦ omega arith ]
 
 -- ## Returns
 
@@ -165,7 +164,7 @@ pub list-element : (s : Bytes) (n : ℕ) (t : Ty) → TypeAt s 0 n t → get_or 
 list-element s n t h e = go t (sym (kind_at s 0 n t h) ∙ e) h.is
   where
     plain : (b : Base) → letter b ≡ 74 → ⊥
-    plain b = unfold letter in elim b [ t_any ↦ λ q. omega arith | t_null ↦ λ q. omega arith | t_bool ↦ λ q. omega arith | t_int ↦ λ q. omega arith | t_float ↦ λ q. omega arith | t_num ↦ λ q. omega arith | t_string ↦ λ q. omega arith | t_date ↦ λ q. omega arith | t_datetime ↦ λ q. omega arith | t_path ↦ λ q. omega arith | t_unknown ↦ λ q. omega arith ]
+    plain b = unfold letter in elim b as (λ k. letter k ≡ 74 → ⊥) [ t_any ↦ λ q. omega arith | t_null ↦ λ q. omega arith | t_bool ↦ λ q. omega arith | t_int ↦ λ q. omega arith | t_float ↦ λ q. omega arith | t_num ↦ λ q. omega arith | t_string ↦ λ q. omega arith | t_date ↦ λ q. omega arith | t_datetime ↦ λ q. omega arith | t_path ↦ λ q. omega arith | t_unknown ↦ λ q. omega arith ]
 
     go : (t : Ty) → kind_of t ≡ 74 → slice 0 n s ≡ line t → (u : Ty) × (t ≡ t_list u) × (slice 2 n s ≡ line u)
     go (base b) q w = absurd (plain b (unfold kind_of in q))

@@ -3,7 +3,7 @@ use Rattle.std.specs.Prelude.{ℕ, ◌≤◌, ◌<◌, ◌≡◌, List, [], ◌�
 use Rattle.std.proofs.Math.Option.{Option, none, some}
 use Rattle.semantics.specs.Codes.{any_letter, string_letter, list_letter, map_letter, node_letter, relationship_letter, path_letter, unknown_letter}
 use Rattle.semantics.specs.Bytes.{Bytes}
-use Rattle.semantics.specs.Ty.{t_any, t_int, t_string, Ty, base, t_list, line}
+use Rattle.semantics.specs.Ty.{t_any, t_int, t_string, Ty, base, t_list}
 use Rattle.semantics.specs.Builtins.{ArgShape, s_any, s_list, s_string, s_list_or_string, s_graph_entity, s_map, s_graph_entity_or_map, ReturnShape, fixed, list_element, list_self, signature, Builtin, builtin_id, builtin_size, builtin_head, builtin_tail, builtin_last, builtin_keys, builtin_values, builtins, shape, takes_all, accepts, resolve_return}
 use Rattle.ty.specs.Read.{kind_of}
 use Rattle.ty.specs.Parts.{TypeAt}
