@@ -1,5 +1,5 @@
 // The report's writer: the lent output with how far it is filled (RULES 6.2). It lives for one line. The functions that take, make or
-// return one are thin, and proved by walks of their MIR; `text::append` and `text::put` clip and count. Other crates call `line`.
+// return one are thin; `text::append` and `text::put` clip and count. `line` is proved by a walk of its MIR. Other crates call `line`.
 #![tactic(auto)]
 
 ghost use Rattle.std.specs.Prelude.{◌≡◌, ◌+◌, ◌<◌, ◌^◌, length, set};
