@@ -192,7 +192,7 @@ open-kind (t_relationship n) = refl
 open-kind (t_union ts) = refl
 
 or-false : (b : Bool) → b || false ≡ b
-or-false b = elim b [ true ↦ refl | false ↦ refl ]
+or-false b = elim b as (λ k. k || false ≡ k) [ true ↦ refl | false ↦ refl ]
 
 pub open_any : (k : ℕ) → k ≡ 65 → OpenKind k true
 open_any k q u e = sym (open-kind u ∙ ap (λ (j : ℕ). eqb j 65 || (eqb j 80 || false)) (e ∙ q))

@@ -1,0 +1,7 @@
+use Rattle.semantics.specs.Bytes.{text}
+use borrow.Author.Rules.{rules}
+use Rattle.report.proofs.refused_line.Goals as goal
+
+pub returns : goal.returns
+unfolding text
+returns c = c.numbers_line.ensures
