@@ -110,9 +110,10 @@ assert sorted(LISTED) == sorted(WORDS)
 
 def write(path, text):
     path = CRATES / path
-    if path.read_text() != text:
+    if not path.exists() or path.read_text() != text:
         changed.append(str(path.relative_to(CRATES)))
         if not CHECK:
+            path.parent.mkdir(parents=True, exist_ok=True)
             path.write_text(text)
 
 
@@ -149,24 +150,19 @@ def arms(pairs):
     return "".join(f"        {key} => {value}, // {name}\n" for key, value, name in pairs)
 
 
-def proof(module, head, uses, opened, arm, count, last, before=""):
+def proof(module, head, uses, opened, arm, keys, last, before=""):
+    """The answers of a match: `arm` for each key, with {} for the key, and `last` behind the arms."""
     name = module.split(".")[-1]
-    spec = name.replace("_", "-") + "-spec"
     crate = module.split(".")[0]
     inner = f"Rattle.{crate}.proofs." + ".".join(module.split(".")[1:])
-    each = "".join(f"\n    ({arm.format(i)})" for i in range(1, count + 1))
+    answers = [(str(key), arm.format(key)) for key in keys] + [("_default", last)]
     text = f"""-- `{name}`: {head} Made by tools/line_table.py. Assumes nothing.
-{uses}use {inner}.Statement.{{statement}}
-use {inner}.Tie as tie
-
-{before}pub {spec} : {{M : Type 1}} → statement M
-unfolding {opened}
-{spec} =
-    tie.close
-    (tie.spec{each}
-    {last})
-"""
-    write(f"{crate}/proofs/" + "/".join(module.split(".")[1:]) + "/Proof.antt", text)
+{uses}use {inner}.Goals as goal
+{before}"""
+    for key, answer in answers:
+        goal = f"returns-in{key}" if key.startswith("_") else f"returns-in-{key}"
+        text += f"\npub {goal} : goal.{goal}\nunfolding {opened}\n{goal} c = {answer}\n"
+    write(f"{crate}/proofs/" + "/".join(module.split(".")[1:]) + "/Answers.antt", text)
 
 
 def main():
@@ -191,18 +187,16 @@ def main():
     for name, listed in (("fields_row", "field_rows"), ("kids_row", "kid_rows")):
         proof(f"line.table.{name}", "an arm's number stands in the list; behind the arms the list has ended.",
               f"use Rattle.line.specs.Arrays.{{{listed}}}\nuse Rattle.line.proofs.Tables.{{past_end}}\n", listed,
-              "λ c. rw c.match.keys{}", len(fields), f"(λ c. past_end {listed} _ c.match.rest)")
+              "rw c.in-{}.is", range(len(fields)), f"past_end {listed} c.args.word (search rules)")
     proof("line.table.word_of", "an arm's number is the word's; where no arm is met no word is.",
           "use Rattle.line.specs.Rows.{word_no, code_from, number_in}\nuse Rattle.line.proofs.Words.{none-met}\n"
           "use Rattle.semantics.specs.Bytes.{text}\nuse Rattle.semantics.specs.Sheet.{row, words}\n", "number_in word_no code_from text row",
-          "λ c. rw c.match.keys{}", len(WORDS), "rest",
-          f"rest : tie.Need-returns-{len(WORDS) + 1}\nunfolding code_from text row\nrest c = none-met _ words c.match.rest\n\n")
+          "rw c.in-{}.is", [code for code, _, _ in codes], "none-met c.args.code words (search rules)")
     proof("line.table.row_of", "an arm's number is the word's, and its row above it; where no arm is met no word is.",
           "use mathlib.Core.Path.{refl, ap}\nuse Prim.Native.Nat.{ℕ, ◌+◌, ◌*◌}\nuse lib.ListN.{get_or}\nuse Rattle.line.specs.Arrays.{field_rows}\n"
           "use Rattle.line.specs.Rows.{word_no, code_from, number_in}\nuse Rattle.line.proofs.Words.{none-met}\n"
           "use Rattle.semantics.specs.Bytes.{text}\nuse Rattle.semantics.specs.Sheet.{row, words}\n", "number_in word_no code_from text row field_rows",
-          "λ c. rw c.match.keys{}", len(WORDS), "rest",
-          f"rest : tie.Need-returns-{len(WORDS) + 1}\nunfolding code_from text row field_rows\nrest c = ap (λ (n : ℕ). n + 64 * get_or field_rows n 0) (none-met _ words c.match.rest)\n\n")
+          "rw c.in-{}.is", [code for code, _, _ in whole], "ap (λ (n : ℕ). n + 64 * get_or field_rows n 0) (none-met c.args.code words (search rules))")
     # rules and constant letters: the words that have a type stand together
     typed = [i for i, r in enumerate(every, 1) if r["rule"] != 12]
     span = range(typed[0], typed[-1] + 1)
@@ -214,13 +208,13 @@ def main():
     put("exprs/src/leaf.rt", ("fn letter_of(word: usize) -> u8\n    ensures { LetterBy word result }\n{\n    match word {\n", "        _ => ty::UNKNOWN", named((f"line::{CONSTANT[w]}", f"ty::{LETTER_NAMES[ROWS[w]['letter'] - 65]}") for w in WORDS[span[0] - 1:span[-1]])))
     put("exprs/proofs/RoleLaws.antt", ("typed_from = ", "\n", str(span[0])), ("typed_many = ", "\n", str(len(span))))
     proof("exprs.rule.rule_of", "an arm's number is the rule of its word; behind the arms no word has one.",
-          "use mathlib.Core.Path.{refl}\nuse Rattle.semantics.specs.Sheet.{row}\nuse Rattle.line.specs.Rows.{numbered}\nuse Rattle.exprs.specs.Rules.{typing_no, rule_no}\n"
-          "use Rattle.exprs.proofs.RoleLaws.{rules, arm-rule, rest-rule}\n", "rules numbered row rule_no typing_no",
-          "λ c v e. arm-rule _ _ _ refl c.match.keys{} v e", len(span), "(λ c v e. rest-rule v (rw e at c.match.rest))")
+          "use mathlib.Core.Path.{refl, subst}\nuse Rattle.semantics.specs.Sheet.{row}\nuse Rattle.line.specs.Rows.{numbered}\nuse Rattle.exprs.specs.Rules.{typing_no, rule_no}\n"
+          "use borrow.Author.Rules.{rules}\nuse Rattle.exprs.proofs.RoleLaws.{Missed, typed_from, typed_many, rules as row_rules, arm-rule, rest-rule}\n", "row_rules numbered row rule_no typing_no",
+          "λ v e. arm-rule _ _ _ refl c.in-{}.is v e", span, "λ v e. rest-rule v (subst (Missed typed_from typed_many) e (search rules))")
     proof("exprs.leaf.letter_of", "an arm's letter is that of its word's constant; behind the arms there is none.",
           "use mathlib.Core.Path.{refl}\nuse Rattle.semantics.specs.Ty.{letter, line, line_to, fields_to}\nuse Rattle.semantics.specs.Sheet.{row}\nuse Rattle.line.specs.Rows.{numbered}\n"
-          "use Rattle.exprs.proofs.LeafLaws.{letters, constant_line, arm-letter, rest-letter}\n", "letters constant_line numbered row line line_to fields_to letter",
-          "λ c. arm-letter _ _ _ refl c.match.keys{}", len(span), "(λ c. rest-letter 80 _ c.match.rest)")
+          "use borrow.Author.Rules.{rules}\nuse Rattle.exprs.proofs.LeafLaws.{letters, constant_line, arm-letter, rest-letter}\n", "letters constant_line numbered row line line_to fields_to letter",
+          "arm-letter _ _ _ refl c.in-{}.is", span, "rest-letter 80 c.args.word (search rules)")
     for name in changed:
         print("differs" if CHECK else "written", name)
     if CHECK and changed:

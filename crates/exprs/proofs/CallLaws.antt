@@ -68,7 +68,7 @@ module _ (row k : ℕ) (s : Bytes) {len : ℕ} (d : len ≡ 0 → ⊥) (e : shap
 
 row_below : (b : Builtin) → row_of (some b) < 7
 unfolding row_of
-row_below b = elim b [ builtin_id ↦ omega arith | builtin_size ↦ omega arith | builtin_head ↦ omega arith | builtin_tail ↦ omega arith | builtin_last ↦ omega arith | builtin_keys ↦ omega arith | builtin_values ↦ omega arith ]
+row_below b = elim b as (λ k. row_of (some k) < 7) [ builtin_id ↦ omega arith | builtin_size ↦ omega arith | builtin_head ↦ omega arith | builtin_tail ↦ omega arith | builtin_last ↦ omega arith | builtin_keys ↦ omega arith | builtin_values ↦ omega arith ]
 
 row-none : (x : Option Builtin) → row_of x ≡ 7 → x ≡ none
 row-none none e = refl

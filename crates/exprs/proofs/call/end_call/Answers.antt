@@ -18,4 +18,4 @@ pub resolve_return-requires : goal.resolve_return-requires
 resolve_return-requires c = arg-some c.requires.0
 
 pub returns : goal.returns
-returns c = λ a k. call_known _ _ _ c.lookup-row.ensures c.if-row-eq-NO_BUILTIN.false c.Return-of.ensures (arg-first a k) c.check_builtin_args-c.ensures c.resolve_return.ensures
+returns c = λ a k. call_known _ _ _ c.lookup-row.ensures c.if-row-eq-NO_BUILTIN.false c.return_of.ensures (arg-first a k) c.check_builtin_args-c.ensures c.resolve_return.ensures

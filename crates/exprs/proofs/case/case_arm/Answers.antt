@@ -10,7 +10,7 @@ pub add_union-requires : goal.add_union-requires
 add_union-requires c = arm_in c.if-st-eq1.false c.requires
 
 pub returns-in-Len : goal.returns-in-Len
-returns-in-Len c = arm-on c.if-st-eq1.false c.requires c.add_union.ensures c.r.given.1 c.state.ensures
+returns-in-Len c = arm-on c.if-st-eq1.false c.requires c.add_union.ensures c.in-Len.is c.state.ensures
 
 pub returns-in-TooLarge : goal.returns-in-TooLarge
 returns-in-TooLarge c = arm-large c.if-st-eq1.false c.requires c.add_union.ensures c.in-TooLarge.is refl

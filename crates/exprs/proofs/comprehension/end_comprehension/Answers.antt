@@ -14,7 +14,7 @@ pub fits-requires : goal.fits-requires
 fits-requires c = last_line c.requires
 
 pub returns-then-fits : goal.returns-then-fits
-returns-then-fits c = λ t k. last-typed _ c.fits2.ensures t k c.if-fits.true
+returns-then-fits c = λ t k. last-typed _ c.fits.ensures t k c.if-fits.true
 
 pub returns : goal.returns
-returns c = λ t k. last-large _ c.fits2.ensures t k c.if-fits.false
+returns c = λ t k. last-large _ c.fits.ensures t k c.if-fits.false

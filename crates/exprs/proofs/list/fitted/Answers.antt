@@ -6,4 +6,4 @@ pub fits-requires : goal.fits-requires
 fits-requires c = list-from c.requires
 
 pub returns-then-fits : goal.returns-then-fits
-returns-then-fits c = fitted-on _ c.fits2.ensures c.if-fits.true c.state.ensures
+returns-then-fits c = fitted-on _ c.fits.ensures c.if-fits.true c.state.ensures

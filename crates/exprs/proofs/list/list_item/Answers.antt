@@ -16,13 +16,13 @@ unify-requires c = ready (running c.if-k-eq2.false c.requires)
 pub overflow_sub-end : goal.overflow_sub-end
 overflow_sub-end c =
     let r = running c.if-k-eq2.false c.requires in
-    let p = stood c.unify.ensures c.end.given.1 r in
+    let p = stood c.unify.ensures c.in-Done.is r in
     p.at.ordered
 
 pub copy_in-requires : goal.copy_in-requires
 copy_in-requires c =
     let r = running c.if-k-eq2.false c.requires in
-    let p = stood c.unify.ensures c.end.given.1 r in
+    let p = stood c.unify.ensures c.in-Done.is r in
     let o = p.at.ordered in
     let i = p.at.inside in
     let l = p.low in
@@ -31,13 +31,13 @@ copy_in-requires c =
 pub overflow_sub-end-in-Done : goal.overflow_sub-end-in-Done
 overflow_sub-end-in-Done c =
     let r = running c.if-k-eq2.false c.requires in
-    let p = stood c.unify.ensures c.end.given.1 r in
+    let p = stood c.unify.ensures c.in-Done.is r in
     p.at.ordered
 
 pub overflow_add-end : goal.overflow_add-end
 overflow_add-end c =
     let r = running c.if-k-eq2.false c.requires in
-    let p = stood c.unify.ensures c.end.given.1 r in
+    let p = stood c.unify.ensures c.in-Done.is r in
     let o = p.at.ordered in
     let i = p.at.inside in
     let l = p.low in
@@ -46,14 +46,14 @@ overflow_add-end c =
 pub fitted-requires-in-Done : goal.fitted-requires-in-Done
 fitted-requires-in-Done c =
     let r = running c.if-k-eq2.false c.requires in
-    let p = stood c.unify.ensures c.end.given.1 r in
+    let p = stood c.unify.ensures c.in-Done.is r in
     record { element = p.ty; at = copied-list (omega (arith, p.low)) p.head p.at c.copy_in.ensures }
 
 pub any_items-requires : goal.any_items-requires
 any_items-requires c = headed c.unify.ensures (running c.if-k-eq2.false c.requires)
 
 pub returns-in-Done : goal.returns-in-Done
-returns-in-Done c = item-done c.unify.ensures c.if-k-eq2.false c.end.given.1 c.copy_in.ensures c.fitted-in-Done.ensures
+returns-in-Done c = item-done c.unify.ensures c.if-k-eq2.false c.in-Done.is c.copy_in.ensures c.fitted-in-Done.ensures
 
 pub returns-in-Mismatch : goal.returns-in-Mismatch
 returns-in-Mismatch c = item-apart c.unify.ensures c.if-k-eq2.false c.in-Mismatch.is c.any_items.ensures

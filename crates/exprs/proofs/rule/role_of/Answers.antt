@@ -1,3 +1,4 @@
+use mathlib.Core.Path.{◌≡◌}
 use mathlib.Core.Logic.{inl, inr, ⊎_elim}
 use borrow.Author.Rules.{rules}
 use Rattle.exprs.proofs.RoleLaws.{case-role, around-is, other-role}
@@ -13,4 +14,8 @@ pub returns-in-49 : goal.returns-in-49
 returns-in-49 c s hd i l = around-is s _ hd i _ _ (inr c.in-49.is) c.comprehension_role-in-49.ensures
 
 pub returns-in_default : goal.returns-in_default
-returns-in_default c s hd i l = other-role s _ hd i _ c.in-44.rest.0.0.1 (⊎_elim c.in-44.rest.0.1 c.in-44.rest.1)
+returns-in_default c s hd i l =
+    let n : c.args.h.word ≡ 44 → ⊥ = search rules in
+    let m : c.args.h.word ≡ 48 → ⊥ = search rules in
+    let o : c.args.h.word ≡ 49 → ⊥ = search rules in
+    other-role s _ hd i _ n (⊎_elim m o)

@@ -1,87 +1,116 @@
-use mathlib.Core.Path.{refl}
+-- `rule_of`: an arm's number is the rule of its word; behind the arms no word has one. Made by tools/line_table.py. Assumes nothing.
+use mathlib.Core.Path.{refl, subst}
 use Rattle.semantics.specs.Sheet.{row}
 use Rattle.line.specs.Rows.{numbered}
 use Rattle.exprs.specs.Rules.{typing_no, rule_no}
-use Rattle.exprs.proofs.RoleLaws.{rules, arm-rule, rest-rule}
+use borrow.Author.Rules.{rules}
+use Rattle.exprs.proofs.RoleLaws.{Missed, typed_from, typed_many, rules as row_rules, arm-rule, rest-rule}
 use Rattle.exprs.proofs.rule.rule_of.Goals as goal
 
 pub returns-in-26 : goal.returns-in-26
-returns-in-26 c = ?
+unfolding row_rules numbered row rule_no typing_no
+returns-in-26 c = λ v e. arm-rule _ _ _ refl c.in-26.is v e
 
 pub returns-in-27 : goal.returns-in-27
-returns-in-27 c = ?
+unfolding row_rules numbered row rule_no typing_no
+returns-in-27 c = λ v e. arm-rule _ _ _ refl c.in-27.is v e
 
 pub returns-in-28 : goal.returns-in-28
-returns-in-28 c = ?
+unfolding row_rules numbered row rule_no typing_no
+returns-in-28 c = λ v e. arm-rule _ _ _ refl c.in-28.is v e
 
 pub returns-in-29 : goal.returns-in-29
-returns-in-29 c = ?
+unfolding row_rules numbered row rule_no typing_no
+returns-in-29 c = λ v e. arm-rule _ _ _ refl c.in-29.is v e
 
 pub returns-in-30 : goal.returns-in-30
-returns-in-30 c = ?
+unfolding row_rules numbered row rule_no typing_no
+returns-in-30 c = λ v e. arm-rule _ _ _ refl c.in-30.is v e
 
 pub returns-in-31 : goal.returns-in-31
-returns-in-31 c = ?
+unfolding row_rules numbered row rule_no typing_no
+returns-in-31 c = λ v e. arm-rule _ _ _ refl c.in-31.is v e
 
 pub returns-in-32 : goal.returns-in-32
-returns-in-32 c = ?
+unfolding row_rules numbered row rule_no typing_no
+returns-in-32 c = λ v e. arm-rule _ _ _ refl c.in-32.is v e
 
 pub returns-in-33 : goal.returns-in-33
-returns-in-33 c = ?
+unfolding row_rules numbered row rule_no typing_no
+returns-in-33 c = λ v e. arm-rule _ _ _ refl c.in-33.is v e
 
 pub returns-in-34 : goal.returns-in-34
-returns-in-34 c = ?
+unfolding row_rules numbered row rule_no typing_no
+returns-in-34 c = λ v e. arm-rule _ _ _ refl c.in-34.is v e
 
 pub returns-in-35 : goal.returns-in-35
-returns-in-35 c = ?
+unfolding row_rules numbered row rule_no typing_no
+returns-in-35 c = λ v e. arm-rule _ _ _ refl c.in-35.is v e
 
 pub returns-in-36 : goal.returns-in-36
-returns-in-36 c = ?
+unfolding row_rules numbered row rule_no typing_no
+returns-in-36 c = λ v e. arm-rule _ _ _ refl c.in-36.is v e
 
 pub returns-in-37 : goal.returns-in-37
-returns-in-37 c = ?
+unfolding row_rules numbered row rule_no typing_no
+returns-in-37 c = λ v e. arm-rule _ _ _ refl c.in-37.is v e
 
 pub returns-in-38 : goal.returns-in-38
-returns-in-38 c = ?
+unfolding row_rules numbered row rule_no typing_no
+returns-in-38 c = λ v e. arm-rule _ _ _ refl c.in-38.is v e
 
 pub returns-in-39 : goal.returns-in-39
-returns-in-39 c = ?
+unfolding row_rules numbered row rule_no typing_no
+returns-in-39 c = λ v e. arm-rule _ _ _ refl c.in-39.is v e
 
 pub returns-in-40 : goal.returns-in-40
-returns-in-40 c = ?
+unfolding row_rules numbered row rule_no typing_no
+returns-in-40 c = λ v e. arm-rule _ _ _ refl c.in-40.is v e
 
 pub returns-in-41 : goal.returns-in-41
-returns-in-41 c = ?
+unfolding row_rules numbered row rule_no typing_no
+returns-in-41 c = λ v e. arm-rule _ _ _ refl c.in-41.is v e
 
 pub returns-in-42 : goal.returns-in-42
-returns-in-42 c = ?
+unfolding row_rules numbered row rule_no typing_no
+returns-in-42 c = λ v e. arm-rule _ _ _ refl c.in-42.is v e
 
 pub returns-in-43 : goal.returns-in-43
-returns-in-43 c = ?
+unfolding row_rules numbered row rule_no typing_no
+returns-in-43 c = λ v e. arm-rule _ _ _ refl c.in-43.is v e
 
 pub returns-in-44 : goal.returns-in-44
-returns-in-44 c = ?
+unfolding row_rules numbered row rule_no typing_no
+returns-in-44 c = λ v e. arm-rule _ _ _ refl c.in-44.is v e
 
 pub returns-in-45 : goal.returns-in-45
-returns-in-45 c = ?
+unfolding row_rules numbered row rule_no typing_no
+returns-in-45 c = λ v e. arm-rule _ _ _ refl c.in-45.is v e
 
 pub returns-in-46 : goal.returns-in-46
-returns-in-46 c = ?
+unfolding row_rules numbered row rule_no typing_no
+returns-in-46 c = λ v e. arm-rule _ _ _ refl c.in-46.is v e
 
 pub returns-in-47 : goal.returns-in-47
-returns-in-47 c = ?
+unfolding row_rules numbered row rule_no typing_no
+returns-in-47 c = λ v e. arm-rule _ _ _ refl c.in-47.is v e
 
 pub returns-in-48 : goal.returns-in-48
-returns-in-48 c = ?
+unfolding row_rules numbered row rule_no typing_no
+returns-in-48 c = λ v e. arm-rule _ _ _ refl c.in-48.is v e
 
 pub returns-in-49 : goal.returns-in-49
-returns-in-49 c = ?
+unfolding row_rules numbered row rule_no typing_no
+returns-in-49 c = λ v e. arm-rule _ _ _ refl c.in-49.is v e
 
 pub returns-in-50 : goal.returns-in-50
-returns-in-50 c = ?
+unfolding row_rules numbered row rule_no typing_no
+returns-in-50 c = λ v e. arm-rule _ _ _ refl c.in-50.is v e
 
 pub returns-in-51 : goal.returns-in-51
-returns-in-51 c = ?
+unfolding row_rules numbered row rule_no typing_no
+returns-in-51 c = λ v e. arm-rule _ _ _ refl c.in-51.is v e
 
 pub returns-in_default : goal.returns-in_default
-returns-in_default c = ?
+unfolding row_rules numbered row rule_no typing_no
+returns-in_default c = λ v e. rest-rule v (subst (Missed typed_from typed_many) e (search rules))

@@ -1,3 +1,5 @@
+use borrow.Author.Rules.{rules}
+use native.Mathlib.Omega.{arith}
 use Rattle.exprs.proofs.Fronts.{var-node, var-relationship, var-path, var-other}
 use borrow.Author.Rules.{rules}
 use Rattle.exprs.proofs.variable.kind_type.Goals as goal
@@ -19,5 +21,5 @@ returns-in-2 c =
 
 pub returns-in_default : goal.returns-in_default
 returns-in_default c =
-    let w = var-other _ c.requires (λ e. omega arith) (λ e. omega arith) (λ e. omega arith) c.put_letter-in_default.ensures in
+    let w = var-other c.args.kind c.requires (search rules) (search rules) (search rules) c.put_letter-in_default.ensures in
     (w.at, w.long)
