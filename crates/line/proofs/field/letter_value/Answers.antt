@@ -25,4 +25,4 @@ unfolding lettered
 returns-in-86 c = letter-is c.args.text.now 86 3 (omega arith) c.in-86.is refl
 
 pub returns-in_default : goal.returns-in_default
-returns-in_default c = letter-none _ (omega arith) c.in-78.rest.0.0.0.1 c.in-78.rest.0.0.1 c.in-78.rest.0.1 c.in-78.rest.1
+returns-in_default c = letter-none _ (omega arith) (λ e. omega arith) (λ e. omega arith) (λ e. omega arith) (λ e. omega arith)

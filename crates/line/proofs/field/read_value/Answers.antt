@@ -1,3 +1,4 @@
+use native.Mathlib.Omega.{arith}
 use mathlib.Core.Path.{◌∙◌}
 use Rattle.line.proofs.ValueLaws.{as-variable, as-optional, as-name, as-aliased, as-float, as-bound, as-letter, as-signed, as-two, as-three, as-operator, as-count, as-edition, as-bit}
 use borrow.Author.Rules.{rules}
@@ -43,4 +44,4 @@ pub returns-in-6 : goal.returns-in-6
 returns-in-6 c = c.ranged-in-6.ensures ∙ as-edition _ _ _ c.in-6.is
 
 pub returns-in_default : goal.returns-in_default
-returns-in_default c = c.ranged-in_default.ensures ∙ as-bit _ _ _ c.in-7.rest.0.0.0.0.0.0.0.0.0.0.0.0.1 c.in-7.rest.0.0.0.0.0.0.0.0.0.0.0.1 c.in-7.rest.0.0.0.0.0.0.0.0.0.0.1 c.in-7.rest.0.0.0.0.0.0.0.0.0.1 c.in-7.rest.0.0.0.0.0.0.0.0.1 c.in-7.rest.0.0.0.0.0.0.0.1 c.in-7.rest.0.0.0.0.0.0.1 c.in-7.rest.0.0.0.0.0.1 c.in-7.rest.0.0.0.0.1 c.in-7.rest.0.0.0.1 c.in-7.rest.0.0.1 c.in-7.rest.0.1 c.in-7.rest.1
+returns-in_default c = c.ranged-in_default.ensures ∙ as-bit _ _ _ (λ e. omega arith) (λ e. omega arith) (λ e. omega arith) (λ e. omega arith) (λ e. omega arith) (λ e. omega arith) (λ e. omega arith) (λ e. omega arith) (λ e. omega arith) (λ e. omega arith) (λ e. omega arith) (λ e. omega arith) (λ e. omega arith)

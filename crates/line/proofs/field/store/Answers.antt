@@ -1,3 +1,4 @@
+use native.Mathlib.Omega.{arith}
 use borrow.Author.Tests.{eq-eqb, ne_eqb}
 use mathlib.Core.Path.{◌∙◌, ap}
 use Rattle.line.proofs.FieldLaws.{store-var, store-optional, store-name, store-float, store-alias, store-number}
@@ -29,4 +30,4 @@ pub returns-else-n-eq1 : goal.returns-else-n-eq1
 returns-else-n-eq1 c = rw (← store-alias _ _ _ _ _ _ c.in-10.is, ne_eqb _ _ c.if-n-eq1.false) c.push-g.ensures
 
 pub returns-in_default : goal.returns-in_default
-returns-in_default c = c.push.ensures ∙ store-number _ _ _ _ _ _ c.in-7.rest.0.0.0.0.1 c.in-7.rest.0.0.0.1 c.in-7.rest.0.0.1 c.in-7.rest.0.1 c.in-7.rest.1
+returns-in_default c = c.push.ensures ∙ store-number _ _ _ _ _ _ (λ e. omega arith) (λ e. omega arith) (λ e. omega arith) (λ e. omega arith) (λ e. omega arith)

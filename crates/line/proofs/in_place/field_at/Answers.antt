@@ -35,7 +35,7 @@ pub returns-in-13 : goal.returns-in-13
 returns-in-13 c = c.other_at.ensures
 
 pub returns-in-14 : goal.returns-in-14
-returns-in-14 c = rw c.in-14.is (c.Float-at.ensures _)
+returns-in-14 c = rw c.in-14.is (c.float_at.ensures _)
 
 pub returns-in_default : goal.returns-in_default
 returns-in_default c = c.ranged_at.ensures _

@@ -1,3 +1,4 @@
+use native.Mathlib.Omega.{arith}
 use mathlib.Core.Path.{refl}
 use Rattle.semantics.specs.Sheet.{lettered}
 use Rattle.line.proofs.KnownLaws.{kind-is, kind-other}
@@ -16,4 +17,4 @@ unfolding lettered
 returns-in-80 c = λ n e. kind-is _ 80 2 n c.in-80.is refl e
 
 pub returns-in_default : goal.returns-in_default
-returns-in_default c = λ n e. kind-other _ n c.in-78.rest.0.0.1 c.in-78.rest.0.1 c.in-78.rest.1 e
+returns-in_default c = λ n e. kind-other _ n (λ e. omega arith) (λ e. omega arith) (λ e. omega arith) e
