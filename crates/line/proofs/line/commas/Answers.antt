@@ -14,8 +14,8 @@ loop-i-init c = (omega arith, c.requires, omega arith)
 pub loop-i-preserved : goal.loop-i-preserved
 loop-i-preserved c =
     elim c.if-line-i-eq-COMMA.branch [
-      then-line-i-eq-COMMA w ↦ omega (arith, comma-hit c.args.line.now c.loop-i.i c.loop-i-test.true w.if-line-i-eq-COMMA.true)
-    | else-line-i-eq-COMMA w ↦ omega (arith, comma-miss c.args.line.now c.loop-i.i c.loop-i-test.true w.if-line-i-eq-COMMA.false)
+      | then-line-i-eq-COMMA w ↦ omega (arith, comma-hit c.args.line.now c.loop-i.i c.loop-i-test.true w.if-line-i-eq-COMMA.true)
+      | else-line-i-eq-COMMA w ↦ omega (arith, comma-miss c.args.line.now c.loop-i.i c.loop-i-test.true w.if-line-i-eq-COMMA.false)
     ]
 
 pub returns : goal.returns

@@ -1,3 +1,4 @@
+-- `fields_row`: an arm's number stands in the list; behind the arms the list has ended. Made by tools/line_table.py. Assumes nothing.
 use Rattle.line.specs.Arrays.{field_rows}
 use Rattle.line.proofs.Tables.{past_end}
 use borrow.Author.Rules.{rules}
@@ -230,4 +231,3 @@ returns-in-55 c = rw c.in-55.is
 pub returns-in_default : goal.returns-in_default
 unfolding field_rows
 returns-in_default c = past_end field_rows c.args.word (search rules)
--- past_end field_rows _ c.in_default.rest

@@ -1,3 +1,4 @@
+-- `kids_row`: an arm's number stands in the list; behind the arms the list has ended. Made by tools/line_table.py. Assumes nothing.
 use Rattle.line.specs.Arrays.{kid_rows}
 use Rattle.line.proofs.Tables.{past_end}
 use borrow.Author.Rules.{rules}
@@ -230,4 +231,3 @@ returns-in-55 c = rw c.in-55.is
 pub returns-in_default : goal.returns-in_default
 unfolding kid_rows
 returns-in_default c = past_end kid_rows c.args.word (search rules)
--- past_end kid_rows _ c.in_default.rest

@@ -1,3 +1,4 @@
+-- `row_of`: an arm's number is the word's, and its row above it; where no arm is met no word is. Made by tools/line_table.py. Assumes nothing.
 use mathlib.Core.Path.{refl, ap}
 use Prim.Native.Nat.{ℕ, ◌+◌, ◌*◌}
 use lib.ListN.{get_or}
@@ -232,4 +233,3 @@ returns-in-23686772 c = rw c.in-23686772.is
 pub returns-in_default : goal.returns-in_default
 unfolding code_from text row field_rows
 returns-in_default c = ap (λ (n : ℕ). n + 64 * get_or field_rows n 0) (none-met c.args.code words (search rules))
--- ap (λ (n : ℕ). n + 64 * get_or field_rows n 0) (none-met _ words c.match.rest)

@@ -1,3 +1,4 @@
+-- `word_of`: an arm's number is the word's; where no arm is met no word is. Made by tools/line_table.py. Assumes nothing.
 use Rattle.line.specs.Rows.{word_no, code_from, number_in}
 use Rattle.line.proofs.Words.{none-met}
 use Rattle.semantics.specs.Bytes.{text}
@@ -227,5 +228,4 @@ returns-in-23686772 c = rw c.in-23686772.is
 
 pub returns-in_default : goal.returns-in_default
 unfolding code_from text row
-returns-in_default c = none-met c.args.code words c.in_default.in_default-own.rest
--- none-met _ words c.match.rest
+returns-in_default c = none-met c.args.code words (search rules)
