@@ -183,6 +183,10 @@ small-variable l s k e = rw e (go _ (says variable l s))
     go : (v : Value) → Says variable s v → num_of v < 4294967296
     go (wrong c) (faulty p) = omega arith
     go (variable_v (some v)) (a-variable p) = omega arith
+    go (number _) x'' = elim x'' [ ]
+    go (variable_v none) x4 = elim x4 [ ]
+    go (name_v _) x4 = elim x4 [ ]
+    go (alias_v _) x5 = elim x5 [ ]
 
 pub small-optional : (l : ℕ) (s : Bytes) (k : ℕ) → k ≡ 8 → num_of (value_at (field_of k) l s) < 4294967296
 unfolding field_of
@@ -192,6 +196,9 @@ small-optional l s k e = rw e (go _ (says optional l s))
     go (wrong c) (faulty p) = omega arith
     go (variable_v (some v)) (some-variable p) = omega arith
     go (variable_v none) no-variable = omega arith
+    go (number _) x'' = elim x'' [ ]
+    go (name_v _) x3 = elim x3 [ ]
+    go (alias_v _) x4 = elim x4 [ ]
 
 -- one number more
 pub get_d_push : (ns : List ℕ) (n i : ℕ) → get_or (ns ++ (n ∷ [])) i 0 ≡ pick_n (eqb (length ns) i) n (get_or ns i 0)
@@ -265,6 +272,33 @@ module _ (s : Bytes) (k : ℕ) (f : Fields) (h : Head) (a : Agrees s k f h) wher
   agrees_on p q w float (name_v ds) (a-float i) e = agrees-name p q w ds i
   agrees_on p q w alias (alias_v ds) (an-alias i) e = agrees-alias p q w ds i
   agrees_on p q w alias (number n) no-alias e = agrees-push 0
+  agrees_on p q w variable (number n) x3 e = elim x3 [ ]
+  agrees_on p q w optional (number n) x4 e = elim x4 [ ]
+  agrees_on p q w name (number n) x5 e = elim x5 [ ]
+  agrees_on p q w float (number n) x6 e = elim x6 [ ]
+  agrees_on p q w (range l m) (variable_v _) x6 e = elim x6 [ ]
+  agrees_on p q w variable (variable_v none) x8 e = elim x8 [ ]
+  agrees_on p q w name (variable_v _) x8 e = elim x8 [ ]
+  agrees_on p q w alias (variable_v _) x9 e = elim x9 [ ]
+  agrees_on p q w bound (variable_v _) x10 e = elim x10 [ ]
+  agrees_on p q w letter (variable_v _) x11 e = elim x11 [ ]
+  agrees_on p q w signed (variable_v _) x12 e = elim x12 [ ]
+  agrees_on p q w float (variable_v _) x13 e = elim x13 [ ]
+  agrees_on p q w (range l m) (name_v ds) x5 e = elim x5 [ ]
+  agrees_on p q w variable (name_v ds) x6 e = elim x6 [ ]
+  agrees_on p q w optional (name_v ds) x7 e = elim x7 [ ]
+  agrees_on p q w alias (name_v ds) x8 e = elim x8 [ ]
+  agrees_on p q w bound (name_v ds) x9 e = elim x9 [ ]
+  agrees_on p q w letter (name_v ds) x10 e = elim x10 [ ]
+  agrees_on p q w signed (name_v ds) x11 e = elim x11 [ ]
+  agrees_on p q w (range l m) (alias_v ds) x6 e = elim x6 [ ]
+  agrees_on p q w variable (alias_v ds) x7 e = elim x7 [ ]
+  agrees_on p q w optional (alias_v ds) x8 e = elim x8 [ ]
+  agrees_on p q w name (alias_v ds) x9 e = elim x9 [ ]
+  agrees_on p q w bound (alias_v ds) x10 e = elim x10 [ ]
+  agrees_on p q w letter (alias_v ds) x11 e = elim x11 [ ]
+  agrees_on p q w signed (alias_v ds) x12 e = elim x12 [ ]
+  agrees_on p q w float (alias_v ds) x13 e = elim x13 [ ]
 
 pub agrees_start : (s : Bytes) (k : ℕ) (v : Word) → Agrees s k nothing_yet (bare v)
 unfolding unhex

@@ -116,6 +116,13 @@ counted (range a b) k l t e =
 counted variable k l t e =
     let w = within-fine 0 variable_limit (decimal t) (λ v. variable_v (some v)) e in
     (w.0, w.1, omega (arith, w.2), ap num_of w.3)
+counted optional k l t e = elim k [ ]
+counted name k l t e = elim k [ ]
+counted alias k l t e = elim k [ ]
+counted bound k l t e = elim k [ ]
+counted letter k l t e = elim k [ ]
+counted signed k l t e = elim k [ ]
+counted float k l t e = elim k [ ]
 
 below-eight : (P : ℕ → Type 0) → P 0 → P 1 → P 2 → P 3 → P 4 → P 5 → P 6 → P 7 → (k : ℕ) → k < 8 → P k
 below-eight P a b c d e f g h zero l = a

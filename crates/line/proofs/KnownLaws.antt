@@ -270,6 +270,9 @@ pair-said k h a b f = by-variable (decimal a) refl f
     by-letter v ea l (number n) e (a-letter p) d =
         let q : record { word = k.word; var = some v; nums = k.nums ++ (n ∷ []); name = k.name } ≡ h = cc in
         record { value = v; kind = n; decimal = ea; small = l; letter = e; var = ap (λ (y : Head). y.var) (sym q); nums = ap (λ (y : Head). y.nums) (sym q) }
+    by-letter v ea l (variable_v _) e x5 d = elim x5 [ ]
+    by-letter v ea l (Rattle.semantics.specs.Sheet.name_v _) e x6 d = elim x6 [ ]
+    by-letter v ea l (Rattle.semantics.specs.Sheet.alias_v _) e x7 d = elim x7 [ ]
 
     by-range : (v : ℕ) → decimal a ≡ some v → (p q : Bool) → leb v variable_limit ≡ q
         → into k (elim (p && q) [ true ↦ variable_v (some v) | false ↦ wrong 4 ]) (λ i. fill i (letter ∷ []) (b ∷ [])) ≡ ok h → Pair k h a b

@@ -101,6 +101,33 @@ filling-into optional fs x h k (variable_v (some v)) g (some-variable p) ih e = 
 filling-into optional fs x h k (variable_v none) g no-variable ih e = keeping optional fs h _ k (λ i. refl) refl refl (ih _ e)
 filling-into name fs x h k (name_v s) g (a-name p) ih e = keeping name fs h _ k (λ i. refl) refl refl (ih _ e)
 filling-into float fs x h k (name_v s) g (a-float p) ih e = keeping float fs h _ k (λ i. refl) refl refl (ih _ e)
+filling-into variable fs x h k (number n) g x6 ih e = elim x6 [ ]
+filling-into optional fs x h k (number n) g x7 ih e = elim x7 [ ]
+filling-into name fs x h k (number n) g x8 ih e = elim x8 [ ]
+filling-into float fs x h k (number n) g x9 ih e = elim x9 [ ]
+filling-into (range l m) fs x h k (variable_v _) g x9 ih e = elim x9 [ ]
+filling-into variable fs x h k (variable_v none) g x11 ih e = elim x11 [ ]
+filling-into name fs x h k (variable_v _) g x11 ih e = elim x11 [ ]
+filling-into alias fs x h k (variable_v _) g x12 ih e = elim x12 [ ]
+filling-into bound fs x h k (variable_v _) g x13 ih e = elim x13 [ ]
+filling-into letter fs x h k (variable_v _) g x14 ih e = elim x14 [ ]
+filling-into signed fs x h k (variable_v _) g x15 ih e = elim x15 [ ]
+filling-into float fs x h k (variable_v _) g x16 ih e = elim x16 [ ]
+filling-into (range l m) fs x h k (name_v s) g x8 ih e = elim x8 [ ]
+filling-into variable fs x h k (name_v s) g x9 ih e = elim x9 [ ]
+filling-into optional fs x h k (name_v s) g x10 ih e = elim x10 [ ]
+filling-into alias fs x h k (name_v s) g x11 ih e = elim x11 [ ]
+filling-into bound fs x h k (name_v s) g x12 ih e = elim x12 [ ]
+filling-into letter fs x h k (name_v s) g x13 ih e = elim x13 [ ]
+filling-into signed fs x h k (name_v s) g x14 ih e = elim x14 [ ]
+filling-into (range l m) fs x h k (alias_v s) g x9 ih e = elim x9 [ ]
+filling-into variable fs x h k (alias_v s) g x10 ih e = elim x10 [ ]
+filling-into optional fs x h k (alias_v s) g x11 ih e = elim x11 [ ]
+filling-into name fs x h k (alias_v s) g x12 ih e = elim x12 [ ]
+filling-into bound fs x h k (alias_v s) g x13 ih e = elim x13 [ ]
+filling-into letter fs x h k (alias_v s) g x14 ih e = elim x14 [ ]
+filling-into signed fs x h k (alias_v s) g x15 ih e = elim x15 [ ]
+filling-into float fs x h k (alias_v s) g x16 ih e = elim x16 [ ]
 
 filling : (fs : List Field) (xs : List Bytes) (h k : Head) → fill h fs xs ≡ ok k → Filling fs h k
 unfolding fill most

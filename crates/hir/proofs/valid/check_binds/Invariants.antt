@@ -1,0 +1,14 @@
+use borrow.Author.Rules.{rules}
+use lib.ListN.{length}
+use mathlib.Core.Path.{◌≡◌, refl, sym, ◌∙◌, ap}
+use Prim.Native.Nat.{◌+◌, ◌-◌, ◌*◌}
+use native.Mathlib.Omega.{arith}
+use Rattle.line.proofs.KnownLaws.{not-fine}
+use Rattle.hir.proofs.TopLaws.{BindsInv, binds-start, bound-room, bound-done, bound-wrong, bound-low, bound-less, bound-on}
+use Rattle.hir.proofs.valid.check_binds.Given as goal
+
+abbrev pub invariant-loop-h : goal.invariant-loop-h
+invariant-loop-h l = BindsInv l.sheet l.initial.p l.initial.l.0 l.p l.l.0 l.least
+
+abbrev pub decreases-loop-h : goal.decreases-loop-h
+decreases-loop-h l = length l.sheet - l.p

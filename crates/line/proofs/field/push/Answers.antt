@@ -1,0 +1,5 @@
+use borrow.Author.Rules.{rules}
+use Rattle.line.proofs.field.push.Goals as goal
+
+pub returns : goal.returns
+returns c = cc

@@ -1,0 +1,16 @@
+use mathlib.Core.Path.{◌≡◌, refl, sym, ◌∙◌, ap}
+use native.Mathlib.Omega.{arith}
+use Prim.Native.Nat.{◌+◌, ◌-◌, ◌*◌, ◌/◌, ◌%◌, ◌≤◌, ◌<◌}
+use lib.ListN.{length, get_or, drop}
+use Rattle.line.proofs.QuickFields.{other-got}
+use borrow.Author.Rules.{rules}
+use Rattle.line.proofs.in_place.other_at.Goals as goal
+
+pub returns-then-end-sheet : goal.returns-then-end-sheet
+returns-then-end-sheet c = λ z. absurd (omega arith)
+
+pub returns-then-v-ne0 : goal.returns-then-v-ne0
+returns-then-v-ne0 c = λ z. absurd (omega arith)
+
+pub returns : goal.returns
+returns c = other-got _ _ _ _ _ _ c.piece_end-end.ensures (omega arith) c.read_value-v.ensures (omega arith)

@@ -1,0 +1,16 @@
+use borrow.Author.Rules.{rules}
+use mathlib.Core.Path.{◌≡◌, refl, sym, ◌∙◌, ap}
+use native.Mathlib.Omega.{arith}
+use Prim.Native.Nat.{◌+◌, ◌-◌, ◌*◌, ◌≤◌, ◌<◌}
+use lib.ListN.{length, get_or, drop}
+use Rattle.line.specs.Quick.{PieceTo}
+use Rattle.line.proofs.QuickFields.{piece-start, piece-on}
+use Rattle.line.proofs.in_place.piece_end.Reads as reads
+use Rattle.line.proofs.in_place.piece_end.Lts as lts
+use Rattle.line.proofs.in_place.piece_end.Given as goal
+
+abbrev pub invariant-loop-i : goal.invariant-loop-i
+invariant-loop-i l = PieceTo l.sheet l.at l.i
+
+abbrev pub decreases-loop-i : goal.decreases-loop-i
+decreases-loop-i l = length l.sheet - l.i

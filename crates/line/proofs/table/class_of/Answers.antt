@@ -1,0 +1,6 @@
+use Rattle.line.proofs.Tables.{class-at}
+use borrow.Author.Rules.{rules}
+use Rattle.line.proofs.table.class_of.Goals as goal
+
+pub returns : goal.returns
+returns c = rw c.kids_row.ensures (class-at _)

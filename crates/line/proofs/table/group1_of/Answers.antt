@@ -1,0 +1,6 @@
+use Rattle.line.proofs.Tables.{group_at}
+use borrow.Author.Rules.{rules}
+use Rattle.line.proofs.table.group1_of.Goals as goal
+
+pub returns : goal.returns
+returns c = rw c.kids_row.ensures (group_at _)
