@@ -37,17 +37,6 @@ ready-slot s a ae b be mark r = omega (arith, r.room, one-slot r.left r.right)
 
 -- ## Before the loop
 
-not-true : (h : Bool) → not h ≡ true → h ≡ false
-not-true true e = sym e
-not-true false e = refl
-
-not-false : (h : Bool) → not h ≡ false → h ≡ true
-not-false true e = refl
-not-false false e = sym e
-
-pub has_parts_lem : (r : ℕ) (h : Bool) → h ≡ has_parts r → not h ≡ false → has_parts r ≡ true
-has_parts_lem r h e n = sym e ∙ not-false h n
-
 pub two-types : (s : Bytes) (a ae b be mark : ℕ) → Ready s a ae b be mark → TwoTypes s a ae b be
 two-types s a ae b be mark r = record { left = r.left; right = r.right; first = r.first.at; second = r.second.at }
 
@@ -56,9 +45,9 @@ module _ (s : Bytes) (a ae b be mark r : ℕ) (ready : Ready s a ae b be mark) (
   arm-ready = record { ready = ready; is = is ready.left ready.right ready.first.at ready.second.at }
 
   -- an arm with no parts
-  pub flat-unifies : (h : Bool) (s' : Bytes) (u : Unified) → h ≡ has_parts r → not h ≡ true → FlatAnswer s s' r a ae b be mark u → Unifies s s' a ae b be mark u
+  pub flat-unifies : (h : Bool) (s' : Bytes) (u : Unified) → h ≡ has_parts r → h ≡ false → FlatAnswer s s' r a ae b be mark u → Unifies s s' a ae b be mark u
   flat-unifies h s' u e n p =
-      record { below = p.below; answer = λ t w x y. p.answer t w x y (is t w x.at y.at) (sym e ∙ not-true h n) }
+      record { below = p.below; answer = λ t w x y. p.answer t w x y (is t w x.at y.at) (sym e ∙ n) }
 
 -- ## The invariant: s₀ is the work area at the loop's head, s as it is now
 

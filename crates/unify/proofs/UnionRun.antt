@@ -107,6 +107,7 @@ opened-plain (t_relationship n) f = also (fine-plain (t_relationship n) f refl) 
 opened-plain (t_union ts) f = union-plain ts f
 
 pub all_of : {P : Ty → Type 0} {xs : List Ty} {x : Ty} → All P xs → Memᴰ x xs → P x
+all_of {P} empty m = elim m [ ]
 all_of {P} (also p a) (Memᴰ.head e) = subst P (sym e) p
 all_of (also p a) (Memᴰ.tail m) = all_of a m
 
