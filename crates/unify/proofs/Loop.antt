@@ -1,15 +1,15 @@
 -- The loop of `unify` on plain values: its invariant, its start, the pair that is lent a part of the work area, a turn, and its end.
 -- Assumes nothing.
-use Prim.Native.Nat.{ℕ, zero, suc, ◌+◌, ◌-◌, ◌*◌, ◌/◌, ◌≤◌, ◌<◌}
+use Prim.Native.Nat.{ℕ, suc, ◌+◌, ◌-◌, ◌*◌, ◌≤◌, ◌<◌}
 use native.Mathlib.Nat.{le-div_iff_mul-le}
 use native.Mathlib.Omega.{arith}
 use mathlib.Core.Path.{◌≡◌, refl, sym, ap, ◌∙◌}
-use mathlib.Core.Bool.{Bool, true, false, not, cond, ◌||◌}
-use mathlib.Core.List.{List, ◌++◌}
+use mathlib.Core.Bool.{Bool, true, false, cond, ◌||◌}
+use mathlib.Core.List.{◌++◌}
 use lib.Dec.{ltb}
 use lib.ListN.{length, take, drop, length-append, length-drop}
 use lib.Seq.{length-take-le}
-use borrow.Author.Tests.{ltb-true, ltb-false, lt-ltb, le-ltb}
+use borrow.Author.Tests.{ltb-true, lt-ltb}
 use Rattle.semantics.specs.Bytes.{Bytes}
 use Rattle.semantics.specs.Ty.{Ty, nesting, is_union}
 use Rattle.ty.proofs.Lines.{nesting-pos}
@@ -17,7 +17,7 @@ use Rattle.unify_run.specs.Run.{Run, done, mismatch, large}
 use Rattle.unify.specs.declared.Frame.{Frame}
 use Rattle.unify.specs.declared.Unified.{Unified}
 use Rattle.unify.specs.declared.Unified.TheVariants.{Done, Mismatch, TooLarge}
-use Rattle.unify.specs.Arms.{arm_of, has_parts}
+use Rattle.unify.specs.Arms.{has_parts}
 use Rattle.unify.specs.Work.{Operand, Ready, Answered, Below, Unifies, slots}
 use Rattle.unify.specs.Frames.{judged, Left, union_skip, left, FrameAt, Comes}
 use Rattle.unify.specs.Steps.{TwoTypes, ArmIs, ArmReady, FlatAnswer, measure, Started, AnsweredPair, SomePair, Stepped, SomeSkip, Skipped, SomeEnd, Finished}

@@ -1,5 +1,4 @@
 use mathlib.Core.Path.{◌∙◌, sym}
-use borrow.Author.Rules.{rules}
 use Rattle.unify.proofs.LetterLaws.{type-begins, arm-any-first, arm-any-second, arm-unknown-first, arm-unknown-second, arm-equal, arm-unequal}
 use Rattle.unify.proofs.arms.arm.Goals as goal
 

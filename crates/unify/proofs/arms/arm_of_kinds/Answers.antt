@@ -1,5 +1,4 @@
 use mathlib.Core.Path.{◌∙◌, sym}
-use borrow.Author.Rules.{rules}
 use Rattle.unify.proofs.LetterLaws.{kinds-number, kinds-first, kinds-second, kinds-apart}
 use Rattle.unify.proofs.arms.arm_of_kinds.Goals as goal
 

@@ -1,4 +1,3 @@
-use borrow.Author.Rules.{rules}
 use Rattle.unify.proofs.LetterLaws.{unequal-null-first, unequal-null-second, unequal-kind, unequal-kinds}
 use Rattle.unify.proofs.arms.arm_of_unequal.Goals as goal
 

@@ -1,5 +1,4 @@
 use mathlib.Core.Path.{◌∙◌, sym}
-use borrow.Author.Rules.{rules}
 use Rattle.unify.proofs.LetterLaws.{both_first, both-second}
 use Rattle.unify.proofs.arms.both_numeric.Goals as goal
 

@@ -1,5 +1,4 @@
 use native.Mathlib.Omega.{arith}
-use borrow.Author.Rules.{rules}
 use Rattle.unify.proofs.FlatLaws.{closing, closed-short, closed-done, closed-large}
 use Rattle.unify.proofs.flat.closed.Goals as goal
 

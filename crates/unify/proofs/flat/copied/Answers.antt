@@ -1,6 +1,5 @@
 use mathlib.Core.Logic.{inr}
 use native.Mathlib.Omega.{arith}
-use borrow.Author.Rules.{rules}
 use Rattle.unify.proofs.FlatLaws.{operand-room, copied-answer}
 use Rattle.unify.proofs.flat.copied.Goals as goal
 

@@ -1,4 +1,3 @@
-use borrow.Author.Rules.{rules}
 use Rattle.unify.proofs.FlatLaws.{made-line, tested-fits, tested-large}
 use Rattle.unify.proofs.flat.tested.Goals as goal
 

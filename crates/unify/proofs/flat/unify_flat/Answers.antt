@@ -1,5 +1,4 @@
 use native.Mathlib.Omega.{arith}
-use borrow.Author.Rules.{rules}
 use Rattle.unify.proofs.FlatLaws.{first-operand, second-operand, two-nodes, flat-first, flat-second, flat-null-first, flat-null-second, flat-nodes, flat-unknown, flat-number, flat-relationship, flat-apart}
 use Rattle.unify.proofs.flat.unify_flat.Goals as goal
 

@@ -1,5 +1,4 @@
 use native.Mathlib.Omega.{arith}
-use borrow.Author.Rules.{rules}
 use Rattle.unify.proofs.NodeLaws.{first_any, second-any, merge-ready, merged-short, merged-done, merged-large}
 use Rattle.unify.proofs.flat.unify_label_sets.Goals as goal
 

@@ -1,4 +1,3 @@
-use borrow.Author.Rules.{rules}
 use Rattle.unify.proofs.NullLaws.{opened-null, plain-null, opened-nullable, plain-nullable}
 use Rattle.unify.proofs.flat.unify_null.Goals as goal
 

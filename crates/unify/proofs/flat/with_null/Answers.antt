@@ -1,6 +1,5 @@
 use mathlib.Core.Logic.{inr}
 use native.Mathlib.Omega.{arith}
-use borrow.Author.Rules.{rules}
 use Rattle.unify.proofs.NullLaws.{null-bounds, null-too-long, null-adding, null-union, null-closed, null-large}
 use Rattle.unify.proofs.flat.with_null.Goals as goal
 

@@ -1,11 +1,7 @@
-use borrow.Author.Rules.{rules}
 use lib.Seq.{length-take-le}
-use lib.ListN.{length}
-use Prim.Native.Nat.{◌-◌}
 use mathlib.Core.Path.{refl, sym, ◌∙◌}
 use native.Mathlib.Omega.{arith}
-use Rattle.unify.proofs.Loop.{UnifyInv, turns, turns-fall, two-types, arm-ready, flat-unifies, loop-start, loop-room, lent-inside, pair-ready, pair-falls, some_pair, loop-step, some-skip, loop-skip, some_end, loop-end}
-use Prim.Native.Nat.{ℕ, ◌<◌}
+use Rattle.unify.proofs.Loop.{turns-fall, two-types, arm-ready, flat-unifies, loop-start, loop-room, lent-inside, pair-ready, pair-falls, some_pair, loop-step, some-skip, loop-skip, some_end, loop-end}
 use Rattle.unify.proofs.frames.+unify.Goals as goal
 
 pub arm-r-requires : goal.arm-r-requires

@@ -1,7 +1,6 @@
 use native.Mathlib.Omega.{arith}
 use mathlib.Core.Path.{refl}
 use Rattle.unify.proofs.FrameKinds.{stopped-apart, stopped-large}
-use borrow.Author.Rules.{rules}
 use Rattle.unify.proofs.frames.finish.Goals as goal
 
 pub returns-in-3 : goal.returns-in-3

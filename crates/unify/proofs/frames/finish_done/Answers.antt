@@ -1,6 +1,5 @@
 use native.Mathlib.Omega.{arith}
 use Rattle.unify.proofs.FrameKinds.{done-kind}
-use borrow.Author.Rules.{rules}
 use Rattle.unify.proofs.frames.finish_done.Goals as goal
 
 pub finish_union-requires : goal.finish_union-requires

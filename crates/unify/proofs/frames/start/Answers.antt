@@ -1,6 +1,5 @@
 use native.Mathlib.Omega.{arith}
 use Rattle.unify.proofs.FrameKinds.{union-arm}
-use borrow.Author.Rules.{rules}
 use Rattle.unify.proofs.frames.start.Goals as goal
 
 pub unify_union_with-requires : goal.unify_union_with-requires

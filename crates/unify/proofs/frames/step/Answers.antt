@@ -1,6 +1,5 @@
 use native.Mathlib.Omega.{arith}
 use Rattle.unify.proofs.FrameKinds.{pair-kind}
-use borrow.Author.Rules.{rules}
 use Rattle.unify.proofs.frames.step.Goals as goal
 
 pub step_union-requires : goal.step_union-requires

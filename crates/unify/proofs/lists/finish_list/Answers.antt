@@ -1,5 +1,4 @@
 use native.Mathlib.Omega.{arith}
-use borrow.Author.Rules.{rules}
 use Rattle.unify.proofs.ListLaws.{ended-made, list-finished}
 use Rattle.unify.proofs.lists.finish_list.Goals as goal
 

@@ -1,7 +1,6 @@
 use mathlib.Core.Path.{ap}
 use mathlib.Core.Logic.{inr}
 use native.Mathlib.Omega.{arith}
-use borrow.Author.Rules.{rules}
 use Rattle.unify.specs.declared.Frame.{Frame}
 use Rattle.unify.proofs.ListLaws.{two-lists, list-bounds, sized, started-list}
 use Rattle.unify.proofs.lists.start_list.Goals as goal

@@ -1,4 +1,3 @@
-use borrow.Author.Rules.{rules}
 use Rattle.unify.proofs.ListLaws.{list-end, list_done_lem, list-apart, list-large}
 use Rattle.unify.proofs.lists.step_list.Goals as goal
 

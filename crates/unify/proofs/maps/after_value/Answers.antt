@@ -1,6 +1,5 @@
 use Rattle.unify.proofs.MapFrames.{value-fits, value-some, value-stepped}
 use native.Mathlib.Omega.{arith}
-use borrow.Author.Rules.{rules}
 use Rattle.unify.proofs.maps.after_value.Goals as goal
 
 pub overflow_sub-end : goal.overflow_sub-end

@@ -1,6 +1,5 @@
 use Rattle.unify.proofs.MapLaws.{entry-room, entry-from, entry-long}
 use native.Mathlib.Omega.{arith}
-use borrow.Author.Rules.{rules}
 use Rattle.unify.proofs.maps.entry_len.Goals as goal
 
 pub field_end-requires : goal.field_end-requires

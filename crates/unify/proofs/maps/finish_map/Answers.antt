@@ -1,7 +1,6 @@
 use Rattle.unify.proofs.MapEnds.{end-small, end-made, end-finished, end-large}
 use mathlib.Core.Path.{sym, ◌∙◌}
 use native.Mathlib.Omega.{arith}
-use borrow.Author.Rules.{rules}
 use Rattle.unify.proofs.maps.finish_map.Goals as goal
 
 pub close_line-requires : goal.close_line-requires

@@ -1,5 +1,4 @@
-use Rattle.unify.proofs.MapLaws.{LoneInv, some-heads, start-inv, turn-entry, turn-taking, turn-less, turn-heads, turn-again, lone}
-use Prim.Native.Nat.{◌+◌, ◌-◌}
+use Rattle.unify.proofs.MapLaws.{some-heads, start-inv, turn-entry, turn-taking, turn-less, turn-heads, turn-again, lone}
 use Rattle.unify.proofs.maps.keep_lone.Goals as goal
 
 pub next_name-next-requires : goal.next_name-next-requires

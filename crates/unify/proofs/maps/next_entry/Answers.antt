@@ -2,7 +2,6 @@ use mathlib.Core.Path.{refl}
 use Rattle.unify.proofs.MapPairs.{entered-over, named-at, name-fits, pair-firsts, entered-pair}
 use Rattle.unify.proofs.KeptMap.{keeps-fits}
 use native.Mathlib.Omega.{arith}
-use borrow.Author.Rules.{rules}
 use Rattle.unify.proofs.maps.next_entry.Goals as goal
 
 pub returns-then-work-p-eq-CLOSE : goal.returns-then-work-p-eq-CLOSE

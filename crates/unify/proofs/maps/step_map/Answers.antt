@@ -2,7 +2,6 @@ use Rattle.unify.proofs.MapFrames.{done-stepped, apart-stepped, large-stepped}
 use Rattle.unify.specs.Steps.{SomePair}
 use Rattle.unify.specs.declared.Unified.{Unified}
 use mathlib.Core.Path.{subst}
-use borrow.Author.Rules.{rules}
 use Rattle.unify.proofs.maps.step_map.Goals as goal
 
 pub after_value-requires : goal.after_value-requires

@@ -3,7 +3,6 @@ use Rattle.unify.specs.declared.Frame.{Frame}
 use mathlib.Core.Logic.{inr}
 use mathlib.Core.Path.{ap}
 use native.Mathlib.Omega.{arith}
-use borrow.Author.Rules.{rules}
 use Rattle.unify.proofs.maps.unify_maps.Goals as goal
 
 pub copy_in-requires : goal.copy_in-requires

@@ -1,7 +1,6 @@
 use mathlib.Core.Path.{refl}
 use mathlib.Core.Logic.{inr}
 use native.Mathlib.Omega.{arith}
-use borrow.Author.Rules.{rules}
 use Rattle.unify.proofs.UnionJoins.{join-order, join-room, join-adding, joined-law}
 use Rattle.unify.proofs.unions.add_copy.Goals as goal
 

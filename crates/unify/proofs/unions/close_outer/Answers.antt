@@ -1,5 +1,4 @@
 use mathlib.Core.Path.{ap}
-use borrow.Author.Rules.{rules}
 use Rattle.unify.specs.declared.Frame.{Frame}
 use Rattle.unify.proofs.UnionFrames.{close-type, close-next, close-met, close-widening, close-widened-next, close-widened, close-over}
 use Rattle.unify.proofs.unions.close_outer.Goals as goal

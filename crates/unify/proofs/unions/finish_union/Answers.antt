@@ -1,4 +1,3 @@
-use borrow.Author.Rules.{rules}
 use Rattle.unify.proofs.UnionSteps.{finish-some, finish-law}
 use Rattle.unify.proofs.unions.finish_union.Goals as goal
 

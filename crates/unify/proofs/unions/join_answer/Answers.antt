@@ -1,5 +1,4 @@
 use mathlib.Core.Path.{refl, ap}
-use borrow.Author.Rules.{rules}
 use Rattle.unify.specs.declared.Frame.{Frame}
 use Rattle.unify.proofs.UnionSteps.{answer-bounds, answer-placing, took-some, took-stepped, took-over}
 use Rattle.unify.proofs.unions.join_answer.Goals as goal

@@ -1,4 +1,3 @@
-use borrow.Author.Rules.{rules}
 use Rattle.unify.proofs.UnionFrames.{outer-none, outer-type, variant-type, outer-skip, outer-pair}
 use Rattle.unify.proofs.unions.next_outer.Goals as goal
 

@@ -1,4 +1,3 @@
-use borrow.Author.Rules.{rules}
 use Rattle.unify.proofs.UnionFrames.{variants-outer, variants-end, variants-type, variants-pair}
 use Rattle.unify.proofs.unions.next_variant.Goals as goal
 

@@ -1,4 +1,3 @@
-use borrow.Author.Rules.{rules}
 use Rattle.unify.proofs.UnionFrames.{skip-outer, skipped-law}
 use Rattle.unify.proofs.unions.skip_outer.Goals as goal
 

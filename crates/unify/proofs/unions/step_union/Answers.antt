@@ -1,5 +1,4 @@
 use mathlib.Core.Path.{ap}
-use borrow.Author.Rules.{rules}
 use Rattle.unify.specs.declared.Frame.{Frame}
 use Rattle.unify.proofs.UnionSteps.{step-done, stepped-done, step-variants, stepped-apart, stepped-over}
 use Rattle.unify.proofs.unions.step_union.Goals as goal

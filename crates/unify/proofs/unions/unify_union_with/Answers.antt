@@ -1,4 +1,3 @@
-use borrow.Author.Rules.{rules}
 use Rattle.unify.proofs.UnionSteps.{start-bounds, start-outers, start-comes}
 use Rattle.unify.proofs.unions.unify_union_with.Goals as goal
 

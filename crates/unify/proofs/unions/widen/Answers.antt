@@ -1,4 +1,3 @@
-use borrow.Author.Rules.{rules}
 use Rattle.unify.proofs.UnionJoins.{widen-again, widened-both, widened-over}
 use Rattle.unify.proofs.unions.widen.Goals as goal
 
