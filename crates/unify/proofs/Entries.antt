@@ -17,7 +17,7 @@ use Rattle.ty.proofs.Lines.{line-to}
 use Rattle.ty.proofs.NameLaws.{name-append, name-long}
 use Rattle.ty.proofs.MergeLaws.{split-part, drop-part, part_same}
 use Rattle.unify_run.specs.Run.{long, attach}
-use Rattle.unify_run.proofs.Size.{bytes, entry_sizes, map-bytes, small-sound, small-true}
+use Rattle.unify_run.proofs.Size.{entry_sizes, map-bytes, small-sound, small-true}
 use Rattle.unify.specs.Work.{Operand, Below}
 use Rattle.unify.specs.Frames.{entries_of, EntriesAt}
 

@@ -9,7 +9,7 @@ use borrow.Author.Tests.{ne_eqb}
 use lib.ListN.{length, take, drop}
 use lib.Seq.{slice, sets}
 use Rattle.semantics.specs.Bytes.{Bytes}
-use Rattle.semantics.specs.Ty.{t_num, t_unknown, Ty, base, t_relationship, members, letter, rel_to, line_to, line, joined, regular, too_large}
+use Rattle.semantics.specs.Ty.{t_num, t_unknown, Ty, base, t_relationship, letter, rel_to, line_to, line, joined, too_large}
 use Rattle.semantics.proofs.Regular.{regular-sound}
 use Rattle.text.proofs.Laws.{part_slice}
 use Rattle.ty.specs.Parts.{TypeAt, TypeFrom}

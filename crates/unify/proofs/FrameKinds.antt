@@ -1,25 +1,25 @@
 -- What a frame that stands tells of its kind, of what is next and of its pair. Assumes nothing.
-use Prim.Native.Nat.{ℕ, ◌+◌, ◌*◌, ◌≤◌, ◌<◌}
+use Prim.Native.Nat.{ℕ, ◌+◌, ◌≤◌}
 use native.Mathlib.Omega.{arith}
-use mathlib.Core.Path.{◌≡◌, refl, sym, ap, ◌∙◌}
+use mathlib.Core.Path.{◌≡◌, refl, sym, ◌∙◌}
 use mathlib.Core.Logic.{◌⊎◌, ⊎_elim}
 use mathlib.Core.Option.{Option, none, some}
-use mathlib.Core.Bool.{Bool, true, false, false≢true, ◌&&◌, ◌||◌}
+use mathlib.Core.Bool.{Bool, true, false, false≢true, ◌&&◌}
 use mathlib.Core.List.{List}
-use lib.Dec.{eqb, leb}
+use lib.Dec.{leb}
 use borrow.Author.Tests.{ne_eqb, leb-true}
-use lib.ListN.{length, take}
+use lib.ListN.{length}
 use Rattle.semantics.specs.Bytes.{Bytes}
 use Rattle.semantics.specs.Ty.{Ty, Fields}
 use Rattle.unify_run.specs.Run.{Run, done, mismatch, large}
 use Rattle.unify.specs.declared.Frame.{Frame}
 use Rattle.unify.specs.declared.Unified.{Unified}
-use Rattle.unify.specs.declared.Unified.TheVariants.{Done, Mismatch, TooLarge}
+use Rattle.unify.specs.declared.Unified.TheVariants.{Mismatch, TooLarge}
 use Rattle.unify.specs.Arms.{has_parts}
-use Rattle.unify.specs.Work.{Operand, Answered, Below, slots}
-use Rattle.unify.specs.Frames.{judged, Left, list_pair, map_pair, union_pair, union_skip, list_done, map_done, union_done, stopped, left, Room, PairAt, FrameAt, KeptNameAt, NameKept, NameOver, StoppedAt, UnionAt}
-use Rattle.unify.specs.Steps.{Pair, of-list, of_map, of-union, SomePair, SomeSkip, SomeEnd, Finished}
-use Rattle.unify.proofs.Stays.{Fronts, fronts-less, slice-stays, types-stay, operand-stays, entries-stay}
+use Rattle.unify.specs.Work.{Answered}
+use Rattle.unify.specs.Frames.{judged, Left, list_pair, map_pair, union_pair, union_skip, list_done, map_done, union_done, stopped, left, PairAt, FrameAt, KeptNameAt, NameKept, NameOver, StoppedAt}
+use Rattle.unify.specs.Steps.{Pair, of-list, of_map, of-union, SomePair, SomeEnd}
+use Rattle.unify.proofs.Stays.{Fronts, slice-stays, types-stay, operand-stays, entries-stay}
 
 -- ## Kinds
 

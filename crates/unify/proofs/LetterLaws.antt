@@ -44,7 +44,7 @@ matches-letter (t_union ts) b = sym (letter-not 79 b refl)
 
 base-number : (b : Base) → among b numbers ≡ numeric (letter b)
 unfolding among numeric letter
-base-number b = elim b [ t_any ↦ refl | t_null ↦ refl | t_bool ↦ refl | t_int ↦ refl | t_float ↦ refl | t_num ↦ refl | t_string ↦ refl | t_date ↦ refl | t_datetime ↦ refl | t_path ↦ refl | t_unknown ↦ refl ]
+base-number b = elim b as (λ k. among k numbers ≡ numeric (letter k)) [ t_any ↦ refl | t_null ↦ refl | t_bool ↦ refl | t_int ↦ refl | t_float ↦ refl | t_num ↦ refl | t_string ↦ refl | t_date ↦ refl | t_datetime ↦ refl | t_path ↦ refl | t_unknown ↦ refl ]
 
 -- a base type beside another
 numeric-last : (x : Bool) → (x && false) ≡ false

@@ -1,15 +1,15 @@
 -- The loop of `unify` on plain values: its invariant, its start, the pair that is lent a part of the work area, a turn, and its end.
 -- Assumes nothing.
-use Prim.Native.Nat.{ℕ, zero, suc, ◌+◌, ◌-◌, ◌*◌, ◌/◌, ◌≤◌, ◌<◌}
+use Prim.Native.Nat.{ℕ, suc, ◌+◌, ◌-◌, ◌*◌, ◌≤◌, ◌<◌}
 use native.Mathlib.Nat.{le-div_iff_mul-le}
 use native.Mathlib.Omega.{arith}
 use mathlib.Core.Path.{◌≡◌, refl, sym, ap, ◌∙◌}
-use mathlib.Core.Bool.{Bool, true, false, not, cond, ◌||◌}
-use mathlib.Core.List.{List, ◌++◌}
+use mathlib.Core.Bool.{Bool, true, false, cond, ◌||◌}
+use mathlib.Core.List.{◌++◌}
 use lib.Dec.{ltb}
 use lib.ListN.{length, take, drop, length-append, length-drop}
 use lib.Seq.{length-take-le}
-use borrow.Author.Tests.{ltb-true, ltb-false, lt-ltb, le-ltb}
+use borrow.Author.Tests.{ltb-true, lt-ltb}
 use Rattle.semantics.specs.Bytes.{Bytes}
 use Rattle.semantics.specs.Ty.{Ty, nesting, is_union}
 use Rattle.ty.proofs.Lines.{nesting-pos}
@@ -17,7 +17,7 @@ use Rattle.unify_run.specs.Run.{Run, done, mismatch, large}
 use Rattle.unify.specs.declared.Frame.{Frame}
 use Rattle.unify.specs.declared.Unified.{Unified}
 use Rattle.unify.specs.declared.Unified.TheVariants.{Done, Mismatch, TooLarge}
-use Rattle.unify.specs.Arms.{arm_of, has_parts}
+use Rattle.unify.specs.Arms.{has_parts}
 use Rattle.unify.specs.Work.{Operand, Ready, Answered, Below, Unifies, slots}
 use Rattle.unify.specs.Frames.{judged, Left, union_skip, left, FrameAt, Comes}
 use Rattle.unify.specs.Steps.{TwoTypes, ArmIs, ArmReady, FlatAnswer, measure, Started, AnsweredPair, SomePair, Stepped, SomeSkip, Skipped, SomeEnd, Finished}
@@ -37,17 +37,6 @@ ready-slot s a ae b be mark r = omega (arith, r.room, one-slot r.left r.right)
 
 -- ## Before the loop
 
-not-true : (h : Bool) → not h ≡ true → h ≡ false
-not-true true e = sym e
-not-true false e = refl
-
-not-false : (h : Bool) → not h ≡ false → h ≡ true
-not-false true e = refl
-not-false false e = sym e
-
-pub has_parts_lem : (r : ℕ) (h : Bool) → h ≡ has_parts r → not h ≡ false → has_parts r ≡ true
-has_parts_lem r h e n = sym e ∙ not-false h n
-
 pub two-types : (s : Bytes) (a ae b be mark : ℕ) → Ready s a ae b be mark → TwoTypes s a ae b be
 two-types s a ae b be mark r = record { left = r.left; right = r.right; first = r.first.at; second = r.second.at }
 
@@ -56,9 +45,9 @@ module _ (s : Bytes) (a ae b be mark r : ℕ) (ready : Ready s a ae b be mark) (
   arm-ready = record { ready = ready; is = is ready.left ready.right ready.first.at ready.second.at }
 
   -- an arm with no parts
-  pub flat-unifies : (h : Bool) (s' : Bytes) (u : Unified) → h ≡ has_parts r → not h ≡ true → FlatAnswer s s' r a ae b be mark u → Unifies s s' a ae b be mark u
+  pub flat-unifies : (h : Bool) (s' : Bytes) (u : Unified) → h ≡ has_parts r → h ≡ false → FlatAnswer s s' r a ae b be mark u → Unifies s s' a ae b be mark u
   flat-unifies h s' u e n p =
-      record { below = p.below; answer = λ t w x y. p.answer t w x y (is t w x.at y.at) (sym e ∙ not-true h n) }
+      record { below = p.below; answer = λ t w x y. p.answer t w x y (is t w x.at y.at) (sym e ∙ n) }
 
 -- ## The invariant: s₀ is the work area at the loop's head, s as it is now
 

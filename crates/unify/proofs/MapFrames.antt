@@ -26,7 +26,7 @@ use Rattle.unify.specs.Codes.{maps_arm}
 use Rattle.unify.specs.Work.{Operand, Below, slots, Answered}
 use Rattle.unify.specs.Arms.{arm_of, pair_arm}
 use Rattle.unify.specs.Made.{goes, apart_by}
-use Rattle.unify.specs.Frames.{judged, Left, map_pair, stopped, left, Value, here, later, Room, entries_of, EntriesAt, KeptAt, KeptNameAt, MapPairAt, Comes}
+use Rattle.unify.specs.Frames.{judged, Left, map_pair, stopped, left, Value, here, later, entries_of, EntriesAt, KeptAt, KeptNameAt, MapPairAt, Comes}
 use Rattle.unify.specs.Merges.{MergeFor, SomeMerge, Lone, Entered}
 use Rattle.unify.specs.Steps.{ArmReady, Started, measure, Pair, of-list, of_map, of-union, AnsweredPair, SomePair, Stepped}
 use Rattle.unify.specs.declared.Unified.{Unified}

@@ -17,7 +17,7 @@ use Rattle.ty.specs.Merging.{LabelsAt, SomeLabels, MergedLabels}
 use Rattle.ty.specs.declared.Grown.{Grown}
 use Rattle.ty.specs.declared.Grown.TheVariants.{Len, TooLarge}
 use Rattle.ty.proofs.UnionEnds.{type-long}
-use Rattle.unify_run.specs.Run.{done, unless, checked, long, run_nodes}
+use Rattle.unify_run.specs.Run.{done, unless, checked, run_nodes}
 use Rattle.unify_run.proofs.Labels.{nodes-run}
 use Rattle.unify.specs.Work.{Operand, Answered, Below}
 use Rattle.unify.specs.Flat.{Written, SomeNodes, NodesAnswer}

@@ -6,7 +6,7 @@ use native.Mathlib.Omega.{arith}
 use lib.ListN.{length, take, drop}
 use lib.Seq.{slice, sets, length-sets}
 use Rattle.semantics.specs.Bytes.{Bytes}
-use Rattle.semantics.specs.Ty.{Ty, line, regular}
+use Rattle.semantics.specs.Ty.{Ty, line}
 use Rattle.semantics.proofs.Order.{line_eq}
 use Rattle.text.proofs.Laws.{slice-take, take_below, slice-sets}
 use Rattle.ty.specs.Parts.{TypeAt}

@@ -1,14 +1,14 @@
 -- Frames of unions: the next outer type, the end of one, and the next variant. Assumes nothing.
 use mathlib.Core.Path.{◌≡◌, refl, sym, ◌∙◌, ap, subst}
 use mathlib.Core.List.{List, [], ◌∷◌, Memᴰ}
-use mathlib.Core.Option.{Option, none, some}
+use mathlib.Core.Option.{Option, some}
 use mathlib.Core.Bool.{Bool, true, false, cond}
 use Prim.Native.Nat.{ℕ, ◌+◌, ◌-◌, ◌*◌, ◌≤◌, ◌<◌}
 use native.Mathlib.Omega.{arith}
 use lib.ListN.{length, get_or}
 use lib.Dec.{eqb}
 use Rattle.semantics.specs.Bytes.{Bytes}
-use Rattle.semantics.specs.Ty.{Ty, members, line}
+use Rattle.semantics.specs.Ty.{Ty, line}
 use Rattle.semantics.proofs.All.{All, also}
 use Rattle.ty.specs.Parts.{lines_of, TypeFrom, EndsAt}
 use Rattle.ty.specs.Union.{TypesAt}
@@ -25,7 +25,7 @@ use Rattle.unify.specs.Steps.{measure, SomeSkip, Skipped}
 use Rattle.unify.specs.Variants.{RunningAt, FewAt, Grows, Widening, Widened, SomeOuters, NextOuter, SomeOuter, ClosedOuter, VariantsAt, SomeVariants, NextVariant}
 use Rattle.unify.specs.declared.Frame.{Frame}
 use Rattle.unify.proofs.Marks.{below-same, below-types}
-use Rattle.unify.proofs.UnionRun.{Members, MembersIf, widen-members, all_of, grows, null-kind, other-kind, comes-done, comes-skip, comes-pair, first, second}
+use Rattle.unify.proofs.UnionRun.{Members, MembersIf, widen-members, all_of, null-kind, other-kind, comes-done, comes-skip, comes-pair}
 use Rattle.unify.proofs.UnionJoins.{first-type, first-is, rest-is, first-less, first-operand, small-long, grows-len, grows-over}
 
 -- ## A frame of a union that goes on

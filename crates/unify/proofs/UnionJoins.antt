@@ -8,7 +8,7 @@ use native.Mathlib.Omega.{arith}
 use lib.ListN.{length, take, drop}
 use lib.Seq.{slice, sets}
 use Rattle.semantics.specs.Bytes.{Bytes}
-use Rattle.semantics.specs.Ty.{Ty, members, line, inserts, regular, too_large}
+use Rattle.semantics.specs.Ty.{Ty, line, inserts, too_large}
 use Rattle.ty.specs.Parts.{lines_of, TypeAt, TypeFrom, EndsAt}
 use Rattle.ty.specs.Union.{TypesAt, Adding, AddedAll}
 use Rattle.ty.specs.declared.Grown.{Grown}
@@ -16,13 +16,13 @@ use Rattle.ty.specs.declared.Grown.TheVariants.{Len, TooLarge}
 use Rattle.ty.proofs.KindLaws.{two_at}
 use Rattle.ty.proofs.Members.{first-from, first-at, others-at}
 use Rattle.ty.proofs.UnionEnds.{type-long}
-use Rattle.unify_run.specs.Run.{large, given, add, widen, join}
+use Rattle.unify_run.specs.Run.{given, add, widen}
 use Rattle.unify_run.proofs.Size.{small-sound}
 use Rattle.unify.specs.Work.{Operand, Below}
 use Rattle.unify.specs.Frames.{Plain}
 use Rattle.unify.specs.Variants.{RunningAt, FewAt, Joining, Grows, Joined, Widening, Widened}
 use Rattle.unify.proofs.Marks.{below_then, below-types, part-types, back_below, back-types, below-sets, copied-before, copied-types}
-use Rattle.unify.proofs.UnionRun.{grows, first}
+use Rattle.unify.proofs.UnionRun.{grows}
 
 -- ## The first of the types that stand at a place
 

@@ -8,7 +8,7 @@ use native.Mathlib.Omega.{arith}
 use lib.Dec.{ltb}
 use borrow.Author.Tests.{eq-eqb, ne_eqb, ltb-true, ltb-false}
 use Rattle.semantics.specs.Bytes.{Bytes}
-use Rattle.semantics.specs.Ty.{t_null, Ty, base, t_list, t_map, t_node, t_relationship, t_union, Tys, members, letter, among, matches, line, nesting, insert, inserts, opened, joined, ascending, is_union, regular}
+use Rattle.semantics.specs.Ty.{t_null, Ty, base, t_list, t_map, t_node, t_relationship, t_union, Tys, members, letter, among, matches, line, nesting, insert, inserts, opened, joined, ascending, is_union}
 use Rattle.semantics.specs.Unify.{Meeting, meeting}
 use Rattle.semantics.proofs.All.{All, empty, also, all-weaken}
 use Rattle.semantics.proofs.Meetings.{Met, two-numbers, two-lists, two-maps, two-nodes, two-relationships, two-unions, union_left, union_right, no-rule, met}
@@ -107,6 +107,7 @@ opened-plain (t_relationship n) f = also (fine-plain (t_relationship n) f refl) 
 opened-plain (t_union ts) f = union-plain ts f
 
 pub all_of : {P : Ty → Type 0} {xs : List Ty} {x : Ty} → All P xs → Memᴰ x xs → P x
+all_of {P} empty m = elim m [ ]
 all_of {P} (also p a) (Memᴰ.head e) = subst P (sym e) p
 all_of (also p a) (Memᴰ.tail m) = all_of a m
 

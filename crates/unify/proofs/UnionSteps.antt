@@ -9,7 +9,7 @@ use native.Mathlib.Omega.{arith}
 use lib.ListN.{length, take, drop, length-append}
 use lib.Seq.{slice, slice_empty}
 use Rattle.semantics.specs.Bytes.{Bytes}
-use Rattle.semantics.specs.Ty.{Ty, t_union, Tys, members, line, inserts, opened, is_union, regular}
+use Rattle.semantics.specs.Ty.{Ty, t_union, Tys, members, line, inserts, opened, is_union}
 use Rattle.semantics.specs.Unify.{meeting}
 use Rattle.semantics.proofs.All.{All, empty, also}
 use Rattle.semantics.proofs.Order.{line_eq}

@@ -1,5 +1,5 @@
 -- Frames made anew, and answers that are made at the mark.
-use Rattle.std.specs.Prelude.{ℕ, ◌+◌, ◌≤◌, ◌≡◌, false, List, length}
+use Rattle.std.specs.Prelude.{ℕ, ◌+◌, ◌≤◌, false, List, length}
 use Rattle.semantics.specs.Bytes.{Bytes}
 use Rattle.semantics.specs.Ty.{Ty, joined}
 use Rattle.ty.specs.Parts.{TypeAt}

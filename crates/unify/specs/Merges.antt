@@ -1,6 +1,6 @@
 -- Two maps that are merged: the entries that are left of both, and what is kept at the mark of those before. What the contracts of maps.rt cite.
 use Rattle.std.specs.Prelude.{ℕ, ◌+◌, ◌<◌, ◌≤◌, ◌≡◌, length, drop}
-use Rattle.std.proofs.Math.Option.{Option, none, some}
+use Rattle.std.proofs.Math.Option.{Option}
 use Rattle.semantics.specs.Limits.{type_limit}
 use Rattle.semantics.specs.Bytes.{Bytes}
 use Rattle.semantics.specs.Ty.{Ty, Fields, ∅ᶠ, field, name_to, line_to, line}

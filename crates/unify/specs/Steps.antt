@@ -1,15 +1,14 @@
 -- What the functions over frames ensure: a frame is begun, goes on after the answer of its pair, and is ended.
-use Rattle.std.specs.Prelude.{ℕ, ◌+◌, ◌-◌, ◌*◌, ◌<◌, ◌≤◌, ◌≡◌, Bool, true, false, cond, List, eqb, length}
+use Rattle.std.specs.Prelude.{ℕ, ◌+◌, ◌-◌, ◌*◌, ◌<◌, ◌≤◌, ◌≡◌, Bool, false, cond, List, eqb, length}
 use Rattle.std.proofs.Math.Option.{Option}
 use Rattle.semantics.specs.Limits.{type_limit}
 use Rattle.semantics.specs.Bytes.{Bytes}
 use Rattle.semantics.specs.Ty.{Ty, Fields}
 use Rattle.ty.specs.Parts.{TypeAt}
-use Rattle.unify_run.specs.Run.{Run}
 use Rattle.unify.specs.Codes.{unions_arm, nothing_left, two_slots}
 use Rattle.unify.specs.Work.{Operand, Ready, Answered, Below}
 use Rattle.unify.specs.Arms.{arm_of, has_parts}
-use Rattle.unify.specs.Frames.{judged, Left, list_pair, map_pair, union_pair, union_skip, list_done, map_done, union_done, left, FrameAt, Comes}
+use Rattle.unify.specs.Frames.{judged, Left, list_pair, map_pair, union_pair, union_skip, left, FrameAt, Comes}
 use Rattle.unify.specs.declared.Frame.{Frame}
 use Rattle.unify.specs.declared.Unified.{Unified}
 
