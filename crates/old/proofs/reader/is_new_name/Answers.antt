@@ -1,0 +1,19 @@
+use Prim.Native.Nat.{◌-◌}
+use native.Mathlib.Omega.{arith}
+use Rattle.old.proofs.Entered.{Scanning, scanning, at-type, at_less, at-found, at_on, scan-end}
+use Rattle.old.proofs.reader.is_new_name.Goals as goal
+
+pub returns-then-same_in : goal.returns-then-same_in
+returns-then-same_in c = at-found _ _ _ _ _ c.loop-p.invariant c.loop-p-test.true _ c.field_end-c.ensures.place _ c.same_in.ensures c.if-same_in.true
+
+pub type_end-p-requires : goal.type_end-p-requires
+type_end-p-requires c = at-type _ _ _ _ _ c.loop-p.invariant c.loop-p-test.true _ c.field_end-c.ensures.place
+
+pub loop-p-smaller : goal.loop-p-smaller
+loop-p-smaller c = omega (arith, at_less _ _ _ _ _ c.loop-p.invariant c.loop-p-test.true _ c.field_end-c.ensures.place _ c.type_end-p.ensures)
+
+pub loop-p-preserved : goal.loop-p-preserved
+loop-p-preserved c = at_on _ _ _ _ _ c.loop-p.invariant c.loop-p-test.true _ c.field_end-c.ensures.place _ c.type_end-p.ensures _ c.same_in.ensures c.if-same_in.false
+
+pub returns : goal.returns
+returns c = scan-end _ _ _ _ _ c.loop-p.invariant c.loop-p-test.false

@@ -1,0 +1,10 @@
+use native.Mathlib.Omega.{arith}
+use borrow.Author.Rules.{rules}
+use Rattle.old.proofs.Entered.{none-new}
+use Rattle.old.proofs.reader.is_unused.Goals as goal
+
+pub returns-then-alike_before-eq0 : goal.returns-then-alike_before-eq0
+returns-then-alike_before-eq0 c =
+    let p = c.requires in
+    let r = c.reach.ensures in
+    none-new _ _ _ _ r.0 (omega (arith, r.1, p.1)) p.2 _ (c.alike_before.ensures c.if-alike_before-eq0.true)

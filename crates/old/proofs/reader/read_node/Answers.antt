@@ -1,0 +1,24 @@
+use mathlib.Core.Path.{sym, ◌∙◌}
+use native.Mathlib.Omega.{arith}
+use Rattle.ty.proofs.Fields.{field-yes}
+use Rattle.old.proofs.OldFlat.{node-none, node-some, node-bad}
+use borrow.Author.Rules.{rules}
+use Rattle.old.proofs.reader.read_node.Goals as goal
+
+pub overflow_add-result : goal.overflow_add-result
+overflow_add-result c = omega (arith, (node-none _ _ (sym c.is_field.ensures ∙ c.if-is_field.true)).4)
+
+pub returns-then-is_field : goal.returns-then-is_field
+returns-then-is_field c = node-none _ _ (sym c.is_field.ensures ∙ c.if-is_field.true)
+
+pub overflow_add-at : goal.overflow_add-at
+overflow_add-at c = let a = c in omega (arith, (field-yes a.args.s.now a.args.at 43 (sym c.is_field-2.ensures ∙ c.if-is_field-2.true)).1)
+
+pub read_labels-requires : goal.read_labels-requires
+read_labels-requires c = let a = c in (field-yes a.args.s.now a.args.at 43 (sym c.is_field-2.ensures ∙ c.if-is_field-2.true)).1
+
+pub returns-then-is_field-2 : goal.returns-then-is_field-2
+returns-then-is_field-2 c = node-some _ _ (sym c.is_field.ensures ∙ c.if-is_field.false) (sym c.is_field-2.ensures ∙ c.if-is_field-2.true) c.read_labels.result c.read_labels.ensures
+
+pub returns : goal.returns
+returns c = node-bad _ _ (sym c.is_field.ensures ∙ c.if-is_field.false) (sym c.is_field-2.ensures ∙ c.if-is_field-2.false)
