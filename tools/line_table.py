@@ -157,7 +157,8 @@ def proof(module, head, uses, opened, arm, keys, last, before=""):
     inner = f"Rattle.{crate}.proofs." + ".".join(module.split(".")[1:])
     answers = [(str(key), arm.format(key)) for key in keys] + [("_default", last)]
     text = f"""-- `{name}`: {head} Made by tools/line_table.py. Assumes nothing.
-{uses}use {inner}.Goals as goal
+{uses}use borrow.Author.Rules.{{rules}}
+use {inner}.Goals as goal
 {before}"""
     for key, answer in answers:
         goal = f"returns-in{key}" if key.startswith("_") else f"returns-in-{key}"
@@ -209,11 +210,11 @@ def main():
     put("exprs/proofs/RoleLaws.antt", ("typed_from = ", "\n", str(span[0])), ("typed_many = ", "\n", str(len(span))))
     proof("exprs.rule.rule_of", "an arm's number is the rule of its word; behind the arms no word has one.",
           "use mathlib.Core.Path.{refl, subst}\nuse Rattle.semantics.specs.Sheet.{row}\nuse Rattle.line.specs.Rows.{numbered}\nuse Rattle.exprs.specs.Rules.{typing_no, rule_no}\n"
-          "use borrow.Author.Rules.{rules}\nuse Rattle.exprs.proofs.RoleLaws.{Missed, typed_from, typed_many, rules as row_rules, arm-rule, rest-rule}\n", "row_rules numbered row rule_no typing_no",
+          "use Rattle.exprs.proofs.RoleLaws.{Missed, typed_from, typed_many, rules as row_rules, arm-rule, rest-rule}\n", "row_rules numbered row rule_no typing_no",
           "λ v e. arm-rule _ _ _ refl c.in-{}.is v e", span, "λ v e. rest-rule v (subst (Missed typed_from typed_many) e (search rules))")
     proof("exprs.leaf.letter_of", "an arm's letter is that of its word's constant; behind the arms there is none.",
           "use mathlib.Core.Path.{refl}\nuse Rattle.semantics.specs.Ty.{letter, line, line_to, fields_to}\nuse Rattle.semantics.specs.Sheet.{row}\nuse Rattle.line.specs.Rows.{numbered}\n"
-          "use borrow.Author.Rules.{rules}\nuse Rattle.exprs.proofs.LeafLaws.{letters, constant_line, arm-letter, rest-letter}\n", "letters constant_line numbered row line line_to fields_to letter",
+          "use Rattle.exprs.proofs.LeafLaws.{letters, constant_line, arm-letter, rest-letter}\n", "letters constant_line numbered row line line_to fields_to letter",
           "arm-letter _ _ _ refl c.in-{}.is", span, "rest-letter 80 c.args.word (search rules)")
     for name in changed:
         print("differs" if CHECK else "written", name)

@@ -3,8 +3,8 @@ use mathlib.Core.Path.{refl}
 use Rattle.semantics.specs.Ty.{letter, line, line_to, fields_to}
 use Rattle.semantics.specs.Sheet.{row}
 use Rattle.line.specs.Rows.{numbered}
-use borrow.Author.Rules.{rules}
 use Rattle.exprs.proofs.LeafLaws.{letters, constant_line, arm-letter, rest-letter}
+use borrow.Author.Rules.{rules}
 use Rattle.exprs.proofs.leaf.letter_of.Goals as goal
 
 pub returns-in-26 : goal.returns-in-26

@@ -3,8 +3,8 @@ use mathlib.Core.Path.{refl, subst}
 use Rattle.semantics.specs.Sheet.{row}
 use Rattle.line.specs.Rows.{numbered}
 use Rattle.exprs.specs.Rules.{typing_no, rule_no}
-use borrow.Author.Rules.{rules}
 use Rattle.exprs.proofs.RoleLaws.{Missed, typed_from, typed_many, rules as row_rules, arm-rule, rest-rule}
+use borrow.Author.Rules.{rules}
 use Rattle.exprs.proofs.rule.rule_of.Goals as goal
 
 pub returns-in-26 : goal.returns-in-26

@@ -231,5 +231,5 @@ unfolding number_in word_no code_from text row field_rows
 returns-in-23686772 c = rw c.in-23686772.is
 
 pub returns-in_default : goal.returns-in_default
-unfolding code_from text row field_rows
+unfolding number_in word_no code_from text row field_rows
 returns-in_default c = ap (λ (n : ℕ). n + 64 * get_or field_rows n 0) (none-met c.args.code words (search rules))

@@ -227,5 +227,5 @@ unfolding number_in word_no code_from text row
 returns-in-23686772 c = rw c.in-23686772.is
 
 pub returns-in_default : goal.returns-in_default
-unfolding code_from text row
+unfolding number_in word_no code_from text row
 returns-in_default c = none-met c.args.code words (search rules)
