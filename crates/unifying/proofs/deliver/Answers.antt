@@ -1,5 +1,4 @@
 use Rattle.unifying.proofs.Delivered.{one_line, two-lines, two-fit, tells-done, tells-apart, tells-large}
-use borrow.Author.Rules.{rules}
 use Rattle.unifying.proofs.deliver.Goals as goal
 
 pub slice_bounds-append-count : goal.slice_bounds-append-count

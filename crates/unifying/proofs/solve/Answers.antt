@@ -1,5 +1,4 @@
 use Rattle.unifying.proofs.CallLaws.{settles-short, settles-first, settles-second, line_read, call-ready, some-answer, settles-unified}
-use borrow.Author.Rules.{rules}
 use Rattle.unifying.proofs.solve.Goals as goal
 
 pub returns-then-out-lt-UNIFY_OUTPUT : goal.returns-then-out-lt-UNIFY_OUTPUT

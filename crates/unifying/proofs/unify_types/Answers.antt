@@ -1,6 +1,5 @@
 use native.Mathlib.Omega.{arith}
 use Rattle.unifying.proofs.CallLaws.{call-untouched, whole-done, whole-parted, whole-zeroed}
-use borrow.Author.Rules.{rules}
 use Rattle.unifying.proofs.unify_types.Goals as goal
 
 pub returns-then-work-ne-WORK_SIZE : goal.returns-then-work-ne-WORK_SIZE
