@@ -4,7 +4,7 @@ use native.Mathlib.Nat.{div-lt_iff_lt-mul}
 use native.Mathlib.Omega.{arith}
 use mathlib.Core.Path.{◌≡◌, refl, sym, ap, ap₂, ◌∙◌}
 use mathlib.Core.Option.{Option, none, some}
-use mathlib.Core.Bool.{Bool, true, false, not, cond, ◌||◌}
+use mathlib.Core.Bool.{Bool, true, false, cond, ◌||◌}
 use lib.Dec.{eqb, ltb}
 use lib.ListN.{length, replicate}
 use lib.Seq.{sets, slice, length-sets}
@@ -77,14 +77,14 @@ module _ (a b work out : Bytes) (size : length work ≡ work_size) where
     unfolding chosen
     call-types = by-room false (le-ltb (length out) unify_output room)
 
-    pub settles-first : (out' : Bytes) (h : Bool) → h ≡ is_found (type_line a) → not h ≡ true → Both (unify_call a b work out) work out out' 8 1
+    pub settles-first : (out' : Bytes) (h : Bool) → h ≡ is_found (type_line a) → h ≡ false → Both (unify_call a b work out) work out out' 8 1
     unfolding unify_types
     settles-first out' h e n =
         settles-cleared (unify_call a b work out) work out out' 8 1 (λ z. omega arith) (λ z. omega arith) (call-types ∙ go (type_line a) h e n)
       where
-        go : (o : Option Ty) (h : Bool) → h ≡ is_found o → not h ≡ true → unify_types o (type_line b) work out ≡ cleared 8 1 work out
+        go : (o : Option Ty) (h : Bool) → h ≡ is_found o → h ≡ false → unify_types o (type_line b) work out ≡ cleared 8 1 work out
         go none h e n = refl
-        go (some t) h e n = absurd (let z : not true ≡ true = rw e at n in let y : ◌≡◌ {A = ℕ} 0 1 = cc in omega arith)
+        go (some t) h e n = absurd (let z : true ≡ false = rw e at n in let y : ◌≡◌ {A = ℕ} 0 1 = cc in omega arith)
 
 -- ## The two types
 
@@ -96,23 +96,23 @@ pub record Line (s : Bytes) : Type 0 where
   pub regular : regular ty ≡ true
   pub small : too_large ty ≡ false
 
-pub line_read : (s : Bytes) (h : Bool) → h ≡ is_found (type_line s) → not h ≡ false → Line s
+pub line_read : (s : Bytes) (h : Bool) → h ≡ is_found (type_line s) → h ≡ true → Line s
 line_read s h e n = go (type_line s) refl h e n
   where
-    go : (o : Option Ty) → type_line s ≡ o → (h : Bool) → h ≡ is_found o → not h ≡ false → Line s
-    go none eq h e n = absurd (let z : not false ≡ false = rw e at n in let y : ◌≡◌ {A = ℕ} 0 1 = cc in omega arith)
+    go : (o : Option Ty) → type_line s ≡ o → (h : Bool) → h ≡ is_found o → h ≡ true → Line s
+    go none eq h e n = absurd (let z : false ≡ true = rw e at n in let y : ◌≡◌ {A = ℕ} 0 1 = cc in omega arith)
     go (some t) eq h e n = let r = read-sound s t eq in record { ty = t; read = eq; is = r.0; regular = r.1; small = r.2 }
 
-pub settles-second : (a b work out : Bytes) → length work ≡ work_size → unify_output ≤ length out → Line a → (out' : Bytes) (h : Bool) → h ≡ is_found (type_line b) → not h ≡ true
+pub settles-second : (a b work out : Bytes) → length work ≡ work_size → unify_output ≤ length out → Line a → (out' : Bytes) (h : Bool) → h ≡ is_found (type_line b) → h ≡ false
     → Both (unify_call a b work out) work out out' 8 2
 unfolding unify_types
 settles-second a b work out size room l out' h e n =
     settles-cleared (unify_call a b work out) work out out' 8 2 (λ z. omega arith) (λ z. omega arith)
     (call-types a b work out size room ∙ ap (λ (o : Option Ty). unify_types o (type_line b) work out) l.read ∙ go (type_line b) h e n)
   where
-    go : (o : Option Ty) (h : Bool) → h ≡ is_found o → not h ≡ true → unify_types (some l.ty) o work out ≡ cleared 8 2 work out
+    go : (o : Option Ty) (h : Bool) → h ≡ is_found o → h ≡ false → unify_types (some l.ty) o work out ≡ cleared 8 2 work out
     go none h e n = refl
-    go (some t) h e n = absurd (let z : not true ≡ true = rw e at n in let y : ◌≡◌ {A = ℕ} 0 1 = cc in omega arith)
+    go (some t) h e n = absurd (let z : true ≡ false = rw e at n in let y : ◌≡◌ {A = ℕ} 0 1 = cc in omega arith)
 
 -- ## Unified in the work area
 
