@@ -79,7 +79,7 @@ op_at n = get_or (arithmetic ∷ equality ∷ comparison ∷ boolean ∷ string 
 
 op-at : (o : Op) → op_at (op_number o) ≡ o
 unfolding op_number
-op-at o = elim o [ arithmetic ↦ refl | comparison ↦ refl | equality ↦ refl | boolean ↦ refl | string ↦ refl | concat ↦ refl ]
+op-at o = elim o as (λ k. op_at (op_number k) ≡ k) [ arithmetic ↦ refl | comparison ↦ refl | equality ↦ refl | boolean ↦ refl | string ↦ refl | concat ↦ refl ]
 
 module _ {k : ℕ} (o : Op) (e : k ≡ op_number o) where
   pub op-key : (n : ℕ) → k ≡ n → o ≡ op_at n

@@ -15,7 +15,7 @@ use Rattle.report.proofs.ReportLaws.{adds_none}
 use Rattle.operators.specs.Helpers.{NumericKind}
 
 or-true : (b : Bool) → b || true ≡ true
-or-true b = elim b [ true ↦ refl | false ↦ refl ]
+or-true b = elim b as (λ k. k || true ≡ true) [ true ↦ refl | false ↦ refl ]
 
 -- a letter is that of one of these types
 unfoldable pub kind_in : ℕ → List Base → Bool

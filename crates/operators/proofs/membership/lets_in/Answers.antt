@@ -1,3 +1,4 @@
+use native.Mathlib.Omega.{arith}
 use Rattle.operators.proofs.InLaws.{lets-any, lets-null, lets-unknown, lets-none}
 use Rattle.operators.proofs.membership.lets_in.Goals as goal
 

@@ -1,3 +1,4 @@
+use native.Mathlib.Omega.{arith}
 use mathlib.Core.Path.{refl}
 use Rattle.semantics.specs.Ty.{t_any, t_int, t_float, t_num, letter}
 use Rattle.operators.proofs.RequireLaws.{kind_in, numeric_kind, numeric-key, numeric-rest}
