@@ -111,7 +111,7 @@ wanted-at d (inner q) = refl
 pub place-rank : (q : Place) → place_at (rank q) ≡ q
 unfolding place_at rank
 place-rank q =
-    elim q [ first_place ↦ refl | binding_place ↦ refl | clause_place ↦ refl | end_place ↦ refl | projection_place ↦ refl | set_item_place ↦ refl | remove_item_place ↦ refl | label_place ↦ refl | parts_place ↦ refl | part_place ↦ refl | element_place ↦ refl | entry_place ↦ refl | item_place ↦ refl | expression_place ↦ refl ]
+    elim q as (λ k. place_at (rank k) ≡ k) [ first_place ↦ refl | binding_place ↦ refl | clause_place ↦ refl | end_place ↦ refl | projection_place ↦ refl | set_item_place ↦ refl | remove_item_place ↦ refl | label_place ↦ refl | parts_place ↦ refl | part_place ↦ refl | element_place ↦ refl | entry_place ↦ refl | item_place ↦ refl | expression_place ↦ refl ]
 
 -- the wants of two groups
 abbrev group_wants : ℕ → ℕ → ℕ → ℕ → ℕ → List Want

@@ -296,6 +296,9 @@ wants-in d (also i x) = one_in (i d) (wants-in d x)
 inner-rank : (w : Want) (h : Head) → Inner w → fits w (rank (place h)) ≡ true → 3 < rank (place h)
 unfolding fits
 inner-rank (at q d) h i e = omega (arith, eqb-true (rank (place h)) (rank q) e)
+inner-rank (first _) h i e = elim i [ ]
+inner-rank (clauses _) h i e = elim i [ ]
+inner-rank (bindings _ _) h i e = elim i [ ]
 
 pub inner-under : (w : Want) (h : Head) → Inner w → fits w (rank (place h)) ≡ true → (under w h ≡ map (wanted (deeper w)) (roles h)) × AllIn (under w h)
 unfolding under roles
@@ -330,6 +333,9 @@ letter-var k h (x ∷ xs) e = go (value letter k.nums x) (rw (value-at letter k.
     go (wrong c) (faulty p) xs d = absurd (no_ok c h d)
     go (number n) (a-letter p) [] d = let q : record { word = k.word; var = k.var; nums = k.nums ++ (n ∷ []); name = k.name } ≡ h = cc in ap (λ (y : Head). y.var) (sym q)
     go (number n) (a-letter p) (y ∷ ys) d = absurd (no_ok 3 h d)
+    go (variable_v _) x5 xs d = elim x5 [ ]
+    go (Rattle.semantics.specs.Sheet.name_v _) x6 xs d = elim x6 [ ]
+    go (Rattle.semantics.specs.Sheet.alias_v _) x7 xs d = elim x7 [ ]
 
 variable-var : (k h : Head) (xs : List Bytes) → fill k (variable ∷ letter ∷ []) xs ≡ ok h → (v : ℕ) × (h.var ≡ some v)
 unfolding fill
@@ -339,6 +345,10 @@ variable-var k h (x ∷ xs) e = go (value variable k.nums x) (rw (value-at varia
     go : (v : Value) → Says variable x v → into k v (λ i. fill i (letter ∷ []) xs) ≡ ok h → (u : ℕ) × (h.var ≡ some u)
     go (wrong c) (faulty p) d = absurd (no_ok c h d)
     go (variable_v (some u)) (a-variable p) d = (u, letter-var _ h xs d)
+    go (number _) x5 d = elim x5 [ ]
+    go (variable_v none) x7 d = elim x7 [ ]
+    go (Rattle.semantics.specs.Sheet.name_v _) x7 d = elim x7 [ ]
+    go (Rattle.semantics.specs.Sheet.alias_v _) x8 d = elim x8 [ ]
 
 pub bind-var : (s : Bytes) (p q : ℕ) (h : Head) → LineAt s p h q → rank (place h) ≡ 1 → (v : ℕ) × (h.var ≡ some v)
 bind-var s p q h a e =

@@ -28,7 +28,7 @@ class_of k = get_or classes k.word 0
 
 rank-small : (p : Place) → rank p ≤ 13
 unfolding rank
-rank-small p = elim p [ first_place ↦ omega arith | binding_place ↦ omega arith | clause_place ↦ omega arith | end_place ↦ omega arith | projection_place ↦ omega arith | set_item_place ↦ omega arith | remove_item_place ↦ omega arith | label_place ↦ omega arith | parts_place ↦ omega arith | part_place ↦ omega arith | element_place ↦ omega arith | entry_place ↦ omega arith | item_place ↦ omega arith | expression_place ↦ omega arith ]
+rank-small p = elim p as (λ k. rank k ≤ 13) [ first_place ↦ omega arith | binding_place ↦ omega arith | clause_place ↦ omega arith | end_place ↦ omega arith | projection_place ↦ omega arith | set_item_place ↦ omega arith | remove_item_place ↦ omega arith | label_place ↦ omega arith | parts_place ↦ omega arith | part_place ↦ omega arith | element_place ↦ omega arith | entry_place ↦ omega arith | item_place ↦ omega arith | expression_place ↦ omega arith ]
 
 pub rank-place : (c : ℕ) → c ≤ 13 → rank (place_at c) ≡ c
 unfolding rank place_at

@@ -20,3 +20,7 @@ invariant-loop-j l = KidsInv l.sheet l.kids l.depth l.n l.initial.p l.initial.l.
 
 abbrev pub decreases-loop-j : goal.decreases-loop-j
 decreases-loop-j l = l.n - l.j
+
+-- the depth left, and then the place of the line
+abbrev pub decreases-check_kids : goal.decreases-check_kids
+decreases-check_kids l = 14 * l.depth + level (get_or classes l.h.word 0)
