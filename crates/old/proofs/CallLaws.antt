@@ -1,19 +1,18 @@
 -- The call that makes an old line regular. Assumes nothing.
-use mathlib.Core.Path.{◌≡◌, refl, sym, ◌∙◌, ap, ap₂, subst}
-use mathlib.Core.List.{List, [], ◌∷◌, ◌++◌}
+use mathlib.Core.Path.{◌≡◌, refl, sym, ◌∙◌, ap, subst}
+use mathlib.Core.List.{[], ◌++◌}
 use mathlib.Core.Option.{Option, none, some}
 use mathlib.Core.Bool.{Bool, true, false, not, false≢true}
-use Prim.Native.Nat.{ℕ, ◌+◌, ◌*◌, ◌≤◌, ◌<◌}
+use Prim.Native.Nat.{ℕ, ◌+◌, ◌≤◌, ◌<◌}
 use native.Mathlib.Nat.{zero-add}
 use native.Mathlib.Omega.{arith}
-use lib.Dec.{eqb, ltb}
 use lib.ListN.{length, take, drop, replicate}
-use lib.Seq.{slice, sets}
-use borrow.Author.Tests.{eq-eqb, ne_eqb, lt-ltb, le-ltb, not-true, not-false}
+use lib.Seq.{sets}
+use borrow.Author.Tests.{eq-eqb, ne_eqb, lt-ltb, not-true, not-false}
 use Rattle.semantics.specs.Limits.{work_size, nesting_limit}
 use Rattle.semantics.specs.Bytes.{Bytes}
-use Rattle.semantics.specs.Ty.{Ty, line_to, line, too_large, type_line}
-use Rattle.semantics.specs.Calls.{Settled, zeros, written, untouched, cleared, answered}
+use Rattle.semantics.specs.Ty.{Ty, line, too_large, type_line}
+use Rattle.semantics.specs.Calls.{Settled, zeros, written, untouched, cleared}
 use Rattle.semantics.proofs.Reader.{read-sound}
 use Rattle.unify_run.proofs.Size.{small-sound}
 use Rattle.text.specs.Text.{is_found}

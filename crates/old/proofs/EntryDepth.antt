@@ -1,8 +1,8 @@
 -- The nesting of a map with an entry more: that of the map before, or one more than the value's. Assumes nothing.
 use mathlib.Core.Path.{◌≡◌, refl, sym, ◌∙◌, ap, ap₂, subst}
 use mathlib.Core.Bool.{Bool, true, false, ◌||◌, false≢true}
-use mathlib.Core.List.{[], ◌++◌}
-use Prim.Native.Nat.{ℕ, ◌+◌, ◌-◌, ◌≤◌, ◌<◌, max}
+use mathlib.Core.List.{[]}
+use Prim.Native.Nat.{ℕ, ◌≤◌, ◌<◌, max}
 use native.Mathlib.Nat.{zero-add}
 use native.Mathlib.Omega.{arith}
 use lib.Dec.{ltb}
@@ -14,10 +14,10 @@ use Rattle.semantics.specs.Ty.{Ty, t_map, Fields, ∅ᶠ, field, line_to, line, 
 use Rattle.semantics.proofs.Order.{Tri, lt, eq, gt, tri, set-lt, set-eq, set-gt, line-inj}
 use Rattle.ty.specs.Parts.{TypeAt, TypeFrom}
 use Rattle.ty.specs.Made.{Made, made}
-use Rattle.ty.specs.Entry.{MapFront, Goes, Fronted, Entering, Entered, inserted_at}
-use Rattle.ty.specs.Read.{end_within, NestingEnd}
+use Rattle.ty.specs.Entry.{MapFront, Goes, Fronted, Entered, inserted_at}
+use Rattle.ty.specs.Read.{NestingEnd}
 use Rattle.ty.specs.declared.Grown.{Grown}
-use Rattle.ty.specs.declared.Grown.TheVariants.{Len, TooLarge}
+use Rattle.ty.specs.declared.Grown.TheVariants.{TooLarge}
 use Rattle.ty.specs.declared.end.TypeEnd.{TypeEnd}
 use Rattle.ty.specs.declared.end.TypeEnd.TheVariants.{End, Bad}
 use Rattle.ty.specs.declared.map.Spot.TheVariants.{New}

@@ -2,17 +2,15 @@
 use mathlib.Core.Path.{◌≡◌, refl, sym, ◌∙◌, ap, ap₂, subst}
 use mathlib.Core.Logic.{◌⊎◌}
 use mathlib.Core.List.{List, [], ◌∷◌, ◌++◌, map, append_assoc}
-use mathlib.Core.Option.{Option, none, some}
-use mathlib.Core.Bool.{Bool, true, false, false≢true, ◌||◌}
+use mathlib.Core.Option.{some}
+use mathlib.Core.Bool.{Bool, true, false, ◌||◌}
 use Prim.Native.Nat.{ℕ, zero, suc, ◌+◌, ◌-◌, ◌≤◌, ◌<◌, Ordering}
-use native.Mathlib.Nat.{add-zero}
 use native.Mathlib.Omega.{arith}
 use lib.Dec.{ltb}
-use lib.ListN.{length, take, drop, get_or, set, length-append, length-map, length-set, length-take, take-append-drop}
+use lib.ListN.{length, take, drop, get_or, set, length-append, length-set, length-take, take-append-drop}
 use lib.Seq.{slice, sets, length-sets, length-slice, length-take-le, take_at, drop_at, get_or-drop, take-take}
-use Rattle.semantics.specs.Limits.{type_limit, nesting_limit}
 use Rattle.semantics.specs.Bytes.{Bytes, hex, lex}
-use Rattle.semantics.specs.Ty.{Ty, t_node, name_to, names_to, labels_to, line_to, line, nesting, too_large, insert_name, ascending}
+use Rattle.semantics.specs.Ty.{t_node, name_to, names_to, labels_to, line_to, line, nesting, too_large, insert_name}
 use Rattle.semantics.proofs.All.{All, empty, also, all-weaken, all_append}
 use Rattle.semantics.proofs.Order.{Less, Tri, lt, eq, gt, tri, lex-lt, lex-gt, lex-eq, less-trans}
 use Rattle.semantics.proofs.Regular.{Above, Ascends, ascends-sound}
@@ -25,13 +23,12 @@ use Rattle.text.proofs.Laws.{part_slice, drop-join}
 use Rattle.ty.specs.Parts.{TypeAt}
 use Rattle.ty.specs.Merging.{head_to, HeadAt}
 use Rattle.ty.specs.Entry.{Fronted, inserted_at}
-use Rattle.ty.specs.Made.{Made as Stands, made as grown_by}
+use Rattle.ty.specs.Made.{made as grown_by}
 use Rattle.ty.specs.declared.Grown.{Grown}
 use Rattle.ty.specs.declared.Grown.TheVariants.{Len, TooLarge}
 use Rattle.ty.proofs.EntryLaws.{fronted-over, fronted-within, inserted-long, inserted-front}
 use Rattle.ty.proofs.Lines.{line-to, name-to, hex-bytes}
 use Rattle.ty.proofs.NameLaws.{name-long, name-append, name-ends, name-part, lex-hex}
-use Rattle.old.specs.declared.labels.LabelSpot.{LabelSpot}
 use Rattle.old.specs.declared.labels.LabelSpot.TheVariants.{New, There}
 use Rattle.old.specs.Make.{StartIn, LabelsFront, SomeLabel, LabelGoes, LabelSpotted, LabelAdded}
 

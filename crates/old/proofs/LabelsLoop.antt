@@ -1,24 +1,22 @@
 -- The labels of an old node type, one after the other into the running set. Assumes nothing.
-use mathlib.Core.Path.{◌≡◌, refl, sym, ◌∙◌, ap, ap₂, subst}
-use mathlib.Core.List.{List, [], ◌∷◌, ◌++◌, map}
-use mathlib.Core.Option.{Option, none, some}
-use mathlib.Core.Bool.{Bool, true, false, false≢true}
-use Prim.Native.Nat.{ℕ, ◌+◌, ◌-◌, ◌*◌, ◌≤◌, ◌<◌}
+use mathlib.Core.Path.{◌≡◌, refl, sym, ◌∙◌, ap, subst}
+use mathlib.Core.List.{List, [], ◌∷◌, map}
+use mathlib.Core.Option.{some}
+use mathlib.Core.Bool.{true, false, false≢true}
+use Prim.Native.Nat.{ℕ, ◌+◌, ◌≤◌, ◌<◌}
 use native.Mathlib.Nat.{zero-add}
 use native.Mathlib.Omega.{arith}
-use lib.ListN.{length, take, drop, length-drop, length-map}
+use lib.ListN.{length, drop, length-drop, length-map}
 use lib.Seq.{slice, sets, length-sets, length-slice}
 use Rattle.text.specs.Text.{index_of}
-use Rattle.semantics.specs.Limits.{type_limit, nesting_limit}
 use Rattle.semantics.specs.Bytes.{Bytes, hex, lex}
 use Rattle.semantics.specs.Ty.{Ty, t_node, name_to, names_to, labels_to, line_to, line, nesting, too_large, insert_name, insert_names, ascending}
-use Rattle.semantics.proofs.Order.{Less, Tri, lt, eq, gt, tri, lex-lt, lex-gt, lex-eq}
+use Rattle.semantics.proofs.Order.{Tri, lt, eq, gt, tri, lex-lt, lex-gt, lex-eq}
 use Rattle.semantics.proofs.Named.{Name, Names}
-use Rattle.semantics.proofs.Regular.{Ascends, ascends-true, ascends-sound, name-ascends}
+use Rattle.semantics.proofs.Regular.{ascends-true, ascends-sound, name-ascends}
 use Rattle.unify_run.proofs.Size.{NoLarger, below-refl, below-trans, below-large, small-sound}
-use Rattle.text.proofs.Laws.{part_slice, slice-sets}
+use Rattle.text.proofs.Laws.{slice-sets}
 use Rattle.ty.specs.Parts.{TypeAt}
-use Rattle.ty.specs.Skip.{next_field}
 use Rattle.ty.specs.Read.{field_at}
 use Rattle.ty.specs.Made.{Made as Stands}
 use Rattle.ty.specs.Merging.{head_to, HeadAt}
@@ -30,7 +28,7 @@ use Rattle.ty.proofs.Skips.{name-past}
 use Rattle.ty.proofs.Fields.{field-yes, field_is, name-part}
 use Rattle.old.specs.declared.Answer.{Answer}
 use Rattle.old.specs.declared.Answer.TheVariants.{Done, Large}
-use Rattle.old.specs.Make.{made_by, MadeAs, LabelsFront, SomeLabel, LabelAdded, SomeNames, LabelsMade}
+use Rattle.old.specs.Make.{MadeAs, LabelsFront, SomeLabel, LabelAdded}
 use Rattle.old.proofs.Answers.{grown-len, grown-large, type-long}
 
 -- ## A set of labels grows

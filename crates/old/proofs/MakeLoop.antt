@@ -1,26 +1,24 @@
 -- The loop over the inner types of an old type. Assumes nothing.
 use mathlib.Core.Path.{◌≡◌, refl, sym, ◌∙◌, ap, ap₂, subst}
-use mathlib.Core.List.{List, [], ◌∷◌, ◌++◌, map}
-use mathlib.Core.Bool.{Bool, true, false, cond, not, false≢true}
-use Prim.Native.Nat.{ℕ, suc, ◌+◌, ◌-◌, ◌*◌, ◌≤◌, ◌<◌, min}
+use mathlib.Core.List.{List, [], ◌∷◌, ◌++◌}
+use mathlib.Core.Bool.{Bool, true, false, false≢true}
+use Prim.Native.Nat.{ℕ, ◌+◌, ◌-◌, ◌≤◌, ◌<◌, min}
 use native.Mathlib.Nat.{zero-add}
 use native.Mathlib.Omega.{arith}
-use lib.Dec.{eqb}
 use lib.ListN.{length, take, drop, get_or, length-drop, length-append}
 use borrow.Author.Tests.{eqb-true, eqb-false, ltb-false}
-use Rattle.text.specs.Text.{index_of}
-use Rattle.semantics.specs.Bytes.{Bytes, hex}
-use Rattle.semantics.specs.Ty.{Base, t_unknown, Ty, base, t_list, t_map, t_node, t_relationship, t_union, Tys, ∅, ◌⊕◌, Fields, ∅ᶠ, field, names, letter, name_to, line_to, fields_to, members_to, line, nesting, nesting_s, nesting_f, too_large, inserts, opened, gather, joined, unite, set_field, members, pack, base_in}
+use Rattle.semantics.specs.Bytes.{Bytes}
+use Rattle.semantics.specs.Ty.{Ty, base, t_list, t_map, t_node, t_relationship, t_union, Tys, ∅, ◌⊕◌, Fields, ∅ᶠ, field, names, letter, name_to, line_to, fields_to, members_to, line, nesting, nesting_s, nesting_f, too_large, inserts, opened, gather, joined, unite, set_field, members, pack, base_in}
 use Rattle.semantics.specs.Limits.{type_limit}
 use Rattle.semantics.proofs.Order.{tail-eq}
-use Rattle.semantics.proofs.Named.{Name, Named, NamedS, NamedF}
-use Rattle.unify_run.proofs.Size.{NoLarger, below-refl, below-trans, below-large, small-sound, gather-grows, element-inside}
+use Rattle.semantics.proofs.Named.{NamedS, NamedF}
+use Rattle.unify_run.proofs.Size.{NoLarger, below-trans, below-large, small-sound, gather-grows, element-inside}
 use Rattle.ty.specs.Parts.{lines_of, TypeAt}
-use Rattle.ty.specs.Union.{TypesAt, overlong}
+use Rattle.ty.specs.Union.{overlong}
 use Rattle.ty.specs.Skip.{next_field}
-use Rattle.ty.specs.Read.{field_at, kind_of, content_of, goes_in, value_at}
+use Rattle.ty.specs.Read.{kind_of, content_of, goes_in, value_at}
 use Rattle.ty.specs.Made.{Made as Stands, made as grown_by}
-use Rattle.ty.specs.Merging.{head_to, HeadAt}
+use Rattle.ty.specs.Merging.{head_to}
 use Rattle.ty.specs.declared.Grown.{Grown}
 use Rattle.ty.specs.declared.Grown.TheVariants.{Len, TooLarge}
 use Rattle.ty.proofs.Lines.{line-to, nesting-pos}
@@ -32,7 +30,7 @@ use Rattle.ty.proofs.Inner.{closed, not-closed}
 use Rattle.ty.proofs.Loops.{value-bounds}
 use Rattle.ty.proofs.Members.{union-line, members-pack, line-long}
 use Rattle.ty.proofs.UnionGrows.{overlong-large}
-use Rattle.old_lines.specs.Old.{distinct, distinct_names, distinct_names_s, distinct_names_f, made, made_s, made_f}
+use Rattle.old_lines.specs.Old.{distinct, distinct_names, distinct_names_s, distinct_names_f, made, made_s}
 use Rattle.old.specs.Read.{Within, end_of}
 use Rattle.old.specs.declared.Answer.{Answer}
 use Rattle.old.specs.declared.Answer.TheVariants.{Done, Large}

@@ -1,26 +1,23 @@
 -- What is made of a type that holds no types, and one inner type more. Assumes nothing.
 use mathlib.Core.Path.{◌≡◌, refl, sym, ◌∙◌, ap, ap₂, subst}
 use mathlib.Core.List.{List, [], ◌∷◌, ◌++◌, map}
-use mathlib.Core.Option.{Option, none, some}
-use mathlib.Core.Bool.{Bool, true, false, cond, not, false≢true}
+use mathlib.Core.Option.{none, some}
+use mathlib.Core.Bool.{Bool, true, false, not}
 use Prim.Native.Nat.{ℕ, ◌+◌, ◌-◌, ◌≤◌, ◌<◌}
 use native.Mathlib.Nat.{zero-add}
 use native.Mathlib.Omega.{arith}
-use lib.Dec.{eqb}
 use lib.ListN.{length, take, drop, get_or, length-drop}
 use lib.Seq.{slice, sets, length-sets}
 use borrow.Author.Tests.{eq-eqb, ne_eqb}
 use Rattle.text.specs.Text.{index_of}
 use Rattle.semantics.specs.Bytes.{Bytes, hex}
-use Rattle.semantics.specs.Ty.{Base, t_unknown, Ty, base, t_list, t_map, t_node, t_relationship, t_union, Fields, ∅ᶠ, letter, name_to, names_to, labels_to, rel_to, line_to, fields_to, line, nesting, too_large, inserts, opened, joined, set_field, insert_names}
-use Rattle.semantics.proofs.Named.{Name, Names, Named}
+use Rattle.semantics.specs.Ty.{Ty, base, t_list, t_map, t_node, t_relationship, t_union, name_to, names_to, labels_to, rel_to, line_to, fields_to, line, nesting, too_large, inserts, opened, joined, set_field, insert_names}
+use Rattle.semantics.proofs.Named.{Names, Named}
 use Rattle.unify_run.proofs.Size.{small-true}
-use Rattle.text.proofs.Laws.{part_slice, slice-sets, slice-join}
-use Rattle.text.specs.Text.{Ends}
-use Rattle.ty.specs.Parts.{lines_of, TypeAt, SomeType, TypeFrom, EndsAt}
-use Rattle.ty.specs.Union.{TypesAt, overlong, Placing, AddedOpened, Closing, Closed, grown}
-use Rattle.ty.specs.Entry.{Entering, Entered}
-use Rattle.ty.specs.Skip.{next_field}
+use Rattle.text.proofs.Laws.{slice-sets, slice-join}
+use Rattle.ty.specs.Parts.{lines_of, TypeAt, TypeFrom, EndsAt}
+use Rattle.ty.specs.Union.{overlong, Placing, AddedOpened, Closing, Closed, grown}
+use Rattle.ty.specs.Entry.{Entered}
 use Rattle.ty.specs.Read.{kind_of, content_of}
 use Rattle.ty.specs.Made.{Made as Stands, made as grown_by}
 use Rattle.ty.specs.declared.Grown.{Grown}
@@ -29,13 +26,13 @@ use Rattle.ty.proofs.Lines.{line-to, letter-away, special}
 use Rattle.ty.proofs.NameLaws.{name-long}
 use Rattle.ty.proofs.Places.{past, part, byte_past, byte_at}
 use Rattle.ty.proofs.Skips.{type-inside}
-use Rattle.ty.proofs.Fields.{content_t, content-kind, type-byte, type-two, name-part}
+use Rattle.ty.proofs.Fields.{content_t, content-kind, type-byte, name-part}
 use Rattle.ty.proofs.EntryLaws.{front-from, tested-fits, tested-large}
 use Rattle.old_lines.specs.Old.{made, made_labels}
 use Rattle.old.specs.Read.{Within}
 use Rattle.old.specs.declared.Answer.{Answer}
-use Rattle.old.specs.declared.Answer.TheVariants.{Done, Large}
-use Rattle.old.specs.Make.{made_by, MadeAs, OldAt, MakesAt, SamePlace, Copies, SomeNames, LabelsMade, Acc, opening, listed, mapped, united, acc_kind, AccAt, joined_by, acc_large, acc_long, acc_type, start_of, StartedAs, Join, SomeJoin, EnteringMap, JoinedAs, Joins, Ending, SomeEnding}
+use Rattle.old.specs.declared.Answer.TheVariants.{Done}
+use Rattle.old.specs.Make.{MadeAs, OldAt, MakesAt, SamePlace, Copies, SomeNames, LabelsMade, Acc, opening, listed, mapped, united, AccAt, joined_by, acc_type, start_of, StartedAs, Join, SomeJoin, EnteringMap, JoinedAs, Joins, Ending, SomeEnding}
 use Rattle.old.proofs.Answers.{type-long}
 use Rattle.old.proofs.EntryDepth.{one_map}
 

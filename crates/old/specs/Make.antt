@@ -5,11 +5,10 @@ use Rattle.semantics.specs.Codes.{comma as comma_byte, list_letter, map_letter, 
 use Rattle.semantics.specs.Limits.{nesting_limit, type_limit}
 use Rattle.semantics.specs.Bytes.{Bytes, hex}
 use Rattle.semantics.specs.Ty.{t_unknown, Ty, base, t_list, t_map, t_node, Fields, ∅ᶠ, name_to, names_to, line_to, line, nesting, too_large, inserts, opened, joined, set_field, insert_name, insert_names, ascending}
-use Rattle.semantics.specs.Named.{Name, Names}
+use Rattle.semantics.specs.Named.{Names}
 use Rattle.ty.specs.Parts.{lines_of, TypeAt}
 use Rattle.ty.specs.Union.{TypesAt, overlong}
 use Rattle.ty.specs.Entry.{Entering}
-use Rattle.ty.specs.Read.{content_of}
 use Rattle.ty.specs.Made.{Made as Stands, made as grown_by}
 use Rattle.ty.specs.declared.Grown.{Grown}
 use Rattle.ty.specs.declared.Grown.TheVariants.{Len, TooLarge}

@@ -1,7 +1,6 @@
 use mathlib.Core.Path.{ap}
 use mathlib.Core.Bool.{not}
-use Rattle.old.proofs.CallLaws.{call-short, given-short, call-given, call-bad, some-old}
-use borrow.Author.Rules.{rules}
+use Rattle.old.proofs.CallLaws.{call-short, given-short, call-given, call-bad}
 use Rattle.old.proofs.call.make_regular.Goals as goal
 
 pub returns-then-out-lt-OLD_OUTPUT : goal.returns-then-out-lt-OLD_OUTPUT

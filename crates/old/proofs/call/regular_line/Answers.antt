@@ -1,5 +1,4 @@
-use Rattle.old.proofs.CallLaws.{call-untouched, line-done, line-zeroed, zeros-as}
-use borrow.Author.Rules.{rules}
+use Rattle.old.proofs.CallLaws.{call-untouched}
 use Rattle.old.proofs.call.regular_line.Goals as goal
 
 pub returns-then-work-ne-WORK_SIZE : goal.returns-then-work-ne-WORK_SIZE

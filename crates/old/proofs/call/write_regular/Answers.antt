@@ -2,7 +2,6 @@ use mathlib.Core.Path.{sym}
 use native.Mathlib.Omega.{arith}
 use lib.Seq.{length-take-le}
 use Rattle.old.proofs.CallLaws.{whole-old, whole-done, written-done, written-large}
-use borrow.Author.Rules.{rules}
 use Rattle.old.proofs.call.write_regular.Goals as goal
 
 pub regular-requires : goal.regular-requires

@@ -1,9 +1,7 @@
 use mathlib.Core.Path.{subst}
 use Rattle.old.specs.declared.labels.LabelSpot.{LabelSpot}
 use Rattle.old.specs.Make.{LabelSpotted}
-use native.Mathlib.Omega.{arith}
-use Rattle.old.proofs.LabelSeek.{spot-inside, label-new, label-there}
-use borrow.Author.Rules.{rules}
+use Rattle.old.proofs.LabelSeek.{label-new, label-there}
 use Rattle.old.proofs.labels.add_label.Goals as goal
 
 pub returns-in-New : goal.returns-in-New

@@ -1,6 +1,5 @@
 use native.Mathlib.Omega.{arith}
-use Rattle.old.proofs.LabelSeek.{label-over, label_kept, label-fronted}
-use borrow.Author.Rules.{rules}
+use Rattle.old.proofs.LabelSeek.{label-over, label-fronted}
 use Rattle.old.proofs.labels.insert_label.Goals as goal
 
 pub returns-then-n-k-gt-TYPE_LIMIT : goal.returns-then-n-k-gt-TYPE_LIMIT

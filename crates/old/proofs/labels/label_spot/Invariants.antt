@@ -1,11 +1,9 @@
 use Prim.Native.Nat.{◌+◌, ◌-◌, ◌≤◌}
 use mathlib.Core.Path.{◌≡◌}
 use mathlib.Core.List.{List, map}
-use native.Mathlib.Omega.{arith}
 use Rattle.semantics.specs.Bytes.{Bytes, hex}
 use Rattle.old.specs.Make.{LabelsFront}
-use Rattle.old.proofs.LabelSeek.{Seeking, node-long, seeking, seek-up, seek-there, seek-down, seek-done}
-use borrow.Author.Rules.{rules}
+use Rattle.old.proofs.LabelSeek.{Seeking}
 use Rattle.old.proofs.labels.label_spot.Given as goal
 
 abbrev pub invariant-loop-lo : goal.invariant-loop-lo

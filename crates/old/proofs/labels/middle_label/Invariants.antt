@@ -1,6 +1,4 @@
 use Prim.Native.Nat.{◌≤◌, ◌<◌}
-use native.Mathlib.Omega.{arith}
-use borrow.Author.Rules.{rules}
 use Rattle.old.proofs.labels.middle_label.Given as goal
 
 abbrev pub invariant-loop-a : goal.invariant-loop-a

@@ -1,14 +1,12 @@
 use mathlib.Core.Path.{refl, sym, ◌∙◌}
-use borrow.Author.Rules.{rules}
 use native.Mathlib.Omega.{arith}
-use Prim.Native.Nat.{◌-◌}
-use lib.ListN.{length, get_or}
+use lib.ListN.{get_or}
 use Rattle.ty.specs.Read.{content_of}
 use Rattle.ty.proofs.Fields.{type-two}
 use Rattle.old.proofs.MakeParts.{old-from}
 use Rattle.ty.proofs.Lent.{part-long, put-long}
-use Rattle.old.proofs.MakeLoop.{Makings, old-deep, making, flat-old, flat-makes, child-old, child-large, child-bounds, join-ready, step-long, step-on, step-large, too_large_lem, end-ready, end-inside, finished}
-use Prim.Native.Nat.{ℕ, ◌<◌}
+use Rattle.old.proofs.MakeLoop.{old-deep, making, flat-old, flat-makes, child-old, child-large, child-bounds, join-ready, step-long, step-on, step-large, too_large_lem, end-ready, finished}
+use Prim.Native.Nat.{◌<◌}
 use Rattle.old.proofs.making.+regular.Goals as goal
 
 pub bounds-s-at : goal.bounds-s-at

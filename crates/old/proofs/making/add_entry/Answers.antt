@@ -1,4 +1,3 @@
-use borrow.Author.Rules.{rules}
 use Rattle.old.proofs.EntryDepth.{value-type, shallow, deep}
 use Rattle.old.proofs.making.add_entry.Goals as goal
 

@@ -1,7 +1,5 @@
-use native.Mathlib.Omega.{arith}
 use Rattle.text.proofs.Laws.{part_slice}
 use Rattle.old.proofs.MakeParts.{copy-bounds, copies}
-use borrow.Author.Rules.{rules}
 use Rattle.old.proofs.making.copied.Goals as goal
 
 pub slice_bounds-append-end : goal.slice_bounds-append-end

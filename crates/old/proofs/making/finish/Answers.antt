@@ -1,7 +1,4 @@
-use mathlib.Core.Path.{sym}
-use lib.Seq.{length-take-le}
-use Rattle.old.proofs.MakeParts.{list-from, some-inside, list-fits, list-large, map-done, union-ready, union-done}
-use borrow.Author.Rules.{rules}
+use Rattle.old.proofs.MakeParts.{list-from}
 use Rattle.old.proofs.making.finish.Goals as goal
 
 pub fits-requires : goal.fits-requires

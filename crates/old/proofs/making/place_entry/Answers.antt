@@ -1,5 +1,3 @@
-use borrow.Author.Rules.{rules}
-use Rattle.ty.proofs.EntryLaws.{new_in}
 use Rattle.old.proofs.EntryDepth.{placed}
 use Rattle.old.proofs.making.place_entry.Goals as goal
 

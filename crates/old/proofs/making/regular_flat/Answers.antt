@@ -1,7 +1,6 @@
 use native.Mathlib.Omega.{arith}
 use Rattle.ty.proofs.Fields.{type-two}
 use Rattle.old.proofs.MakeParts.{old-from, same_place, flat-copied, flat-three, label-names, labels-made}
-use borrow.Author.Rules.{rules}
 use Rattle.old.proofs.making.regular_flat.Goals as goal
 
 pub bounds-s-at : goal.bounds-s-at

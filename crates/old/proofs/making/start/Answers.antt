@@ -1,6 +1,5 @@
 use native.Mathlib.Omega.{arith}
 use Rattle.old.proofs.MakeParts.{start-list, start-map, start-union}
-use borrow.Author.Rules.{rules}
 use Rattle.old.proofs.making.start.Goals as goal
 
 pub returns-in-74 : goal.returns-in-74

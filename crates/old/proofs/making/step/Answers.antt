@@ -1,6 +1,5 @@
 use Rattle.text.proofs.Laws.{part_slice}
-use Rattle.old.proofs.MakeParts.{join-list, entry_ready, join-map, member-ready, join-union}
-use borrow.Author.Rules.{rules}
+use Rattle.old.proofs.MakeParts.{join-list, entry_ready, join-map}
 use Rattle.old.proofs.making.step.Goals as goal
 
 pub add_entry-requires : goal.add_entry-requires

@@ -1,14 +1,8 @@
-use borrow.Author.Rules.{rules}
-use mathlib.Core.Path.{sym, ◌∙◌, ap}
-use borrow.Author.Tests.{not-true, not-false}
-use Prim.Native.Nat.{◌-◌}
+use mathlib.Core.Path.{sym, ◌∙◌}
 use native.Mathlib.Omega.{arith}
-use lib.ListN.{length}
-use Rattle.ty.specs.Read.{content_of}
 use Rattle.ty.proofs.Strict.{content-two}
 use Rattle.ty.proofs.Loops.{value-bounds, content-four}
-use Rattle.old.proofs.OldReads.{Reading, reading, no-nesting, part-places, part-bad, part-refused, part-read, parts-end, some-passed}
-use Prim.Native.Nat.{ℕ, ◌<◌}
+use Rattle.old.proofs.OldReads.{reading, no-nesting, part-places, part-bad, part-refused, part-read, parts-end}
 use Rattle.old.proofs.reader.+read_old.Goals as goal
 
 pub returns-then-left-eq0 : goal.returns-then-left-eq0

@@ -1,7 +1,5 @@
-use mathlib.Core.Path.{refl}
 use Prim.Native.Nat.{◌-◌}
-use native.Mathlib.Omega.{arith}
-use Rattle.old.proofs.Entered.{Comparing, comparing, compare-on}
+use Rattle.old.proofs.Entered.{Comparing}
 use Rattle.old.proofs.reader.alike_before.Given as goal
 
 abbrev pub invariant-loop-i : goal.invariant-loop-i

@@ -1,4 +1,3 @@
-use borrow.Author.Rules.{rules}
 use borrow.Author.Tests.{eq-eqb, ne_eqb}
 use Rattle.old.specs.Read.{end_of}
 use Rattle.old.proofs.reader.end_of.Goals as goal

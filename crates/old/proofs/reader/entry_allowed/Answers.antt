@@ -1,6 +1,4 @@
 use mathlib.Core.Path.{sym, ◌∙◌}
-use borrow.Author.Rules.{rules}
-use borrow.Author.Tests.{not-true, not-false}
 use Rattle.old.proofs.Entered.{name-none, name_new}
 use Rattle.old.proofs.reader.entry_allowed.Goals as goal
 

@@ -1,6 +1,5 @@
-use Prim.Native.Nat.{◌-◌}
 use native.Mathlib.Omega.{arith}
-use Rattle.old.proofs.Entered.{Scanning, scanning, at-type, at_less, at-found, at_on, scan-end}
+use Rattle.old.proofs.Entered.{at-type, at_less, at-found, at_on, scan-end}
 use Rattle.old.proofs.reader.is_new_name.Goals as goal
 
 pub returns-then-same_in : goal.returns-then-same_in

@@ -1,6 +1,5 @@
 use Prim.Native.Nat.{◌-◌}
-use native.Mathlib.Omega.{arith}
-use Rattle.old.proofs.Entered.{Scanning, scanning, at-type, at_less, at-found, at_on, scan-end}
+use Rattle.old.proofs.Entered.{Scanning}
 use Rattle.old.proofs.reader.is_new_name.Given as goal
 
 abbrev pub invariant-loop-p : goal.invariant-loop-p

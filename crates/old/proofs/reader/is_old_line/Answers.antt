@@ -1,5 +1,4 @@
 use Rattle.old.proofs.OldLine.{old-long, old-read, old-bad}
-use borrow.Author.Rules.{rules}
 use Rattle.old.proofs.reader.is_old_line.Goals as goal
 
 pub returns-then-s-gt-OLD_LIMIT : goal.returns-then-s-gt-OLD_LIMIT

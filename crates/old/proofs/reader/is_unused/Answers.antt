@@ -1,5 +1,4 @@
 use native.Mathlib.Omega.{arith}
-use borrow.Author.Rules.{rules}
 use Rattle.old.proofs.Entered.{none-new}
 use Rattle.old.proofs.reader.is_unused.Goals as goal
 

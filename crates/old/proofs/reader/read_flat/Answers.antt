@@ -1,6 +1,5 @@
 use native.Mathlib.Omega.{arith}
 use Rattle.old.proofs.OldFlat.{flat-two, flat-none, flat-base, flat-node, flat-rel}
-use borrow.Author.Rules.{rules}
 use Rattle.old.proofs.reader.read_flat.Goals as goal
 
 pub overflow_add-result : goal.overflow_add-result

@@ -1,9 +1,6 @@
 use mathlib.Core.Path.{sym, ◌∙◌}
-use borrow.Author.Tests.{not-true, not-false}
-use Prim.Native.Nat.{◌-◌}
 use native.Mathlib.Omega.{arith}
-use lib.ListN.{length}
-use Rattle.old.proofs.OldFlat.{Naming, naming, label-refused, label_inside, label-on, labels-end}
+use Rattle.old.proofs.OldFlat.{label-refused, label_inside, label-on, labels-end}
 use Rattle.old.proofs.reader.read_labels.Goals as goal
 
 pub returns-then-not-is_name : goal.returns-then-not-is_name

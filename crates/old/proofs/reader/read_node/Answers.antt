@@ -2,7 +2,6 @@ use mathlib.Core.Path.{sym, ◌∙◌}
 use native.Mathlib.Omega.{arith}
 use Rattle.ty.proofs.Fields.{field-yes}
 use Rattle.old.proofs.OldFlat.{node-none, node-some, node-bad}
-use borrow.Author.Rules.{rules}
 use Rattle.old.proofs.reader.read_node.Goals as goal
 
 pub overflow_add-result : goal.overflow_add-result
