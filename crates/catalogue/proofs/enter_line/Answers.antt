@@ -1,0 +1,21 @@
+use borrow.Author.Tests.{not-true, not-false}
+use mathlib.Core.Path.{sym, ◌∙◌}
+use Rattle.catalogue.proofs.StandLaws.{open-laid}
+use Rattle.catalogue.proofs.CallLaws.{no_line, ends_at, standing, found-standing, entered-old, entered-new}
+use borrow.Author.Rules.{rules}
+use Rattle.catalogue.proofs.enter_line.Goals as goal
+
+pub returns-then-not-is_type_line : goal.returns-then-not-is_type_line
+returns-then-not-is_type_line c = no_line _ _ _ _ c.requires _ c.is_type_line.ensures (c.if-not-is_type_line.true) _ c.refuse.ensures
+
+pub find_text-requires : goal.find_text-requires
+find_text-requires c = open-laid _ _ c.requires.form _ c.requires.ends
+
+pub enter_old-requires : goal.enter_old-requires
+enter_old-requires c = standing _ _ _ (found-standing _ _ _ (ends_at _ _ _ c.requires) _ c.find_text.ensures _ c.in-At.is)
+
+pub returns-in-At : goal.returns-in-At
+returns-in-At c = entered-old _ _ _ (ends_at _ _ _ c.requires) (sym c.is_type_line.ensures ∙ c.if-not-is_type_line.false) _ c.find_text.ensures _ c.in-At.is _ c.enter_old.ensures
+
+pub returns-in-Nothing : goal.returns-in-Nothing
+returns-in-Nothing c = entered-new _ _ _ _ c.requires (sym c.is_type_line.ensures ∙ c.if-not-is_type_line.false) _ c.find_text.ensures c.in-Nothing.is _ c.enter_new.ensures

@@ -1,0 +1,6 @@
+use Rattle.catalogue.proofs.NumberLaws.{put_two}
+use borrow.Author.Rules.{rules}
+use Rattle.catalogue.proofs.number.put16.Goals as goal
+
+pub returns : goal.returns
+returns c = put_two _ _ _

@@ -1,0 +1,9 @@
+use Rattle.catalogue.proofs.SlotLaws.{raised-low, raised-high}
+use borrow.Author.Rules.{rules}
+use Rattle.catalogue.proofs.tally.count_in.Goals as goal
+
+pub returns-then-n-lt-TWICE : goal.returns-then-n-lt-TWICE
+returns-then-n-lt-TWICE c = raised-low _ _ c.if-n-lt-TWICE.true
+
+pub returns-else-n-lt-TWICE : goal.returns-else-n-lt-TWICE
+returns-else-n-lt-TWICE c = raised-high _ _ c.if-n-lt-TWICE.false

@@ -1,0 +1,10 @@
+use Prim.Native.Nat.{◌-◌}
+use native.Mathlib.Omega.{arith}
+use Rattle.catalogue.proofs.SlotLaws.{Sieves, sieve-start, sifted, sieve-out, sieve-on, sieve-end, bounds, head-room}
+use Rattle.catalogue.proofs.tally.sift.Given as goal
+
+abbrev pub invariant-loop-at : goal.invariant-loop-at
+invariant-loop-at l = Sieves l.s l.from l.at l.end l.counts
+
+abbrev pub decreases-loop-at : goal.decreases-loop-at
+decreases-loop-at l = l.end - l.at

@@ -1,0 +1,15 @@
+use borrow.Author.Rules.{rules}
+use Rattle.catalogue.specs.Slots.{slot_of}
+use native.Mathlib.Nat.{mod-lt}
+use lib.ListN.{length, drop}
+use Prim.Native.Nat.{ℕ, ◌+◌, ◌-◌, ◌*◌, ◌%◌, ◌≤◌, ◌<◌}
+use native.Mathlib.Omega.{arith}
+use mathlib.Core.Path.{◌≡◌, refl, sym, ◌∙◌, ap}
+use Rattle.catalogue.proofs.SlotLaws.{slot-on, slot-end}
+use Rattle.catalogue.proofs.tally.slot_of.Given as goal
+
+abbrev pub invariant-loop-i : goal.invariant-loop-i
+invariant-loop-i l = (l.i ≤ length l.t) × (l.h < 32768) × (slot_of 0 l.t ≡ slot_of l.h (drop l.i l.t))
+
+abbrev pub decreases-loop-i : goal.decreases-loop-i
+decreases-loop-i l = length l.t - l.i
