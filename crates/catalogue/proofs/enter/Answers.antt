@@ -1,4 +1,3 @@
-use native.Mathlib.Omega.{arith}
 use mathlib.Core.Path.{sym, ◌∙◌}
 use Rattle.catalogue.proofs.CallLaws.{opened, store-refused}
 use borrow.Author.Rules.{rules}

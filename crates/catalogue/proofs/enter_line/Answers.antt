@@ -1,8 +1,6 @@
-use borrow.Author.Tests.{not-true, not-false}
 use mathlib.Core.Path.{sym, ◌∙◌}
 use Rattle.catalogue.proofs.StandLaws.{open-laid}
 use Rattle.catalogue.proofs.CallLaws.{no_line, ends_at, standing, found-standing, entered-old, entered-new}
-use borrow.Author.Rules.{rules}
 use Rattle.catalogue.proofs.enter_line.Goals as goal
 
 pub returns-then-not-is_type_line : goal.returns-then-not-is_type_line

@@ -1,7 +1,6 @@
 use native.Mathlib.Omega.{arith}
 use Rattle.catalogue.proofs.WriteLaws.{open-end}
 use Rattle.catalogue.proofs.CallLaws.{no_number, no_room, new-type}
-use borrow.Author.Rules.{rules}
 use Rattle.catalogue.proofs.enter_new.Goals as goal
 
 pub returns-then-last-ge-NUMBER_LIMIT : goal.returns-then-last-ge-NUMBER_LIMIT

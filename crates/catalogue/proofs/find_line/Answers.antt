@@ -1,7 +1,6 @@
 use native.Mathlib.Omega.{arith}
 use mathlib.Core.Path.{sym, ◌∙◌}
 use Rattle.catalogue.proofs.CallLaws.{ends_at, opened, not-looked, no-store-place}
-use borrow.Author.Rules.{rules}
 use Rattle.catalogue.proofs.find_line.Goals as goal
 
 pub line_number-requires : goal.line_number-requires

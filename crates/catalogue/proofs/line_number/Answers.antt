@@ -1,7 +1,6 @@
 use mathlib.Core.Path.{sym, ◌∙◌}
 use Rattle.catalogue.proofs.StandLaws.{open-laid}
 use Rattle.catalogue.proofs.CallLaws.{standing, found-standing, looked-up, not-looked-up, found-place, no_place}
-use borrow.Author.Rules.{rules}
 use Rattle.catalogue.proofs.line_number.Goals as goal
 
 pub find_number-requires : goal.find_number-requires

@@ -1,5 +1,4 @@
 use Rattle.catalogue.proofs.CallLaws.{looked-part}
-use borrow.Author.Rules.{rules}
 use Rattle.catalogue.proofs.look_up.Goals as goal
 
 pub returns : goal.returns

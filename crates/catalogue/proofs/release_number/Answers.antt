@@ -1,6 +1,5 @@
 use Rattle.catalogue.proofs.StandLaws.{open-laid}
 use Rattle.catalogue.proofs.CallLaws.{found-standing, released, not-released}
-use borrow.Author.Rules.{rules}
 use Rattle.catalogue.proofs.release_number.Goals as goal
 
 pub find_number-requires : goal.find_number-requires

@@ -2,11 +2,7 @@ use mathlib.Core.Logic.{inl}
 use native.Mathlib.Omega.{arith}
 use Rattle.catalogue.proofs.WriteLaws.{gone-room, removed}
 use Rattle.catalogue.proofs.StandLaws.{stands_here}
-use mathlib.Core.Path.{refl, ◌∙◌}
-use Prim.Native.Nat.{◌+◌, ◌-◌}
-use lib.ListN.{length}
-use borrow.Rule.Slice.PartMut.{same_len_mid}
-use borrow.Author.Rules.{rules}
+use mathlib.Core.Path.{refl}
 use Rattle.catalogue.proofs.remove.Goals as goal
 
 pub next_entry-next-requires : goal.next_entry-next-requires

@@ -1,9 +1,7 @@
 use native.Mathlib.Omega.{arith}
-use Prim.Native.Nat.{◌-◌}
 use mathlib.Core.Path.{sym, ◌∙◌}
 use borrow.Author.Tests.{eq-eqb, ne_eqb}
-use Rattle.catalogue.specs.Places.{spot_at, has_number}
-use Rattle.catalogue.proofs.PlaceLaws.{Walk, walk_start, walk-room, walk-spread, walk-on, walk-out, walk_end, spot_on, spot_out, spot-none}
+use Rattle.catalogue.proofs.PlaceLaws.{walk-room, walk-on, walk-out, walk_end, spot_on, spot_out, spot-none}
 use Rattle.catalogue.proofs.find.find_number.Goals as goal
 
 pub bytes16-requires : goal.bytes16-requires

@@ -1,10 +1,6 @@
-use borrow.Author.Rules.{rules}
-use native.Mathlib.Omega.{arith}
 use Prim.Native.Nat.{◌-◌}
-use mathlib.Core.Path.{sym, ◌∙◌, ap}
-use Rattle.semantics.specs.Bytes.{same}
 use Rattle.catalogue.specs.Places.{spot_at, has_text}
-use Rattle.catalogue.proofs.PlaceLaws.{Walk, walk_start, walk-room, walk-spread, walk-on, walk-out, walk_end, spot_on, spot_out, spot-none, part-text}
+use Rattle.catalogue.proofs.PlaceLaws.{Walk}
 use Rattle.catalogue.proofs.find.find_text.Given as goal
 
 abbrev pub invariant-loop-at : goal.invariant-loop-at

@@ -1,7 +1,5 @@
 use Rattle.catalogue.proofs.StoreLaws.{other_length, no-zeros, no_end, end_read, read-laid, good-store, twice_there}
-use borrow.Author.Tests.{not-true, not-false}
 use mathlib.Core.Path.{sym, ◌∙◌}
-use borrow.Author.Rules.{rules}
 use Rattle.catalogue.proofs.form.check.Goals as goal
 
 pub returns-then-s-ne-STORE_SIZE : goal.returns-then-s-ne-STORE_SIZE

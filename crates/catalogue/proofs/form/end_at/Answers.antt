@@ -1,7 +1,6 @@
 use Rattle.stores.specs.Catalogue.{are_zeros}
 use mathlib.Core.Path.{sym, ◌∙◌, ap}
 use Rattle.catalogue.proofs.CheckLaws.{stopped, not_stopped, part-rest}
-use borrow.Author.Rules.{rules}
 use Rattle.catalogue.proofs.form.end_at.Goals as goal
 
 pub returns-then-all_zeros : goal.returns-then-all_zeros

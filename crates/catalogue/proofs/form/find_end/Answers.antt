@@ -1,7 +1,4 @@
-use borrow.Author.Rules.{rules}
-use Prim.Native.Nat.{◌-◌}
-use lib.ListN.{length}
-use Rattle.catalogue.proofs.CheckLaws.{Tail, tail-start, tail-bad, tail-ends, tail-less, tail-on}
+use Rattle.catalogue.proofs.CheckLaws.{tail-start, tail-on}
 use Rattle.catalogue.proofs.form.find_end.Goals as goal
 
 pub loop-number-init : goal.loop-number-init

@@ -1,7 +1,6 @@
-use borrow.Author.Rules.{rules}
 use Prim.Native.Nat.{◌-◌}
 use lib.ListN.{length}
-use Rattle.catalogue.proofs.CheckLaws.{Tail, tail-start, tail-bad, tail-ends, tail-less, tail-on}
+use Rattle.catalogue.proofs.CheckLaws.{Tail}
 use Rattle.catalogue.proofs.form.find_end.Given as goal
 
 abbrev pub invariant-loop-number : goal.invariant-loop-number

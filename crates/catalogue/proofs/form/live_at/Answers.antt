@@ -1,7 +1,6 @@
 use native.Mathlib.Omega.{arith}
 use mathlib.Core.Path.{refl, sym, ◌∙◌}
 use Rattle.catalogue.proofs.CheckLaws.{too_long, not-above, not-given, not-used, not_line, goes_on, part-line}
-use borrow.Author.Rules.{rules}
 use Rattle.catalogue.proofs.form.live_at.Goals as goal
 
 pub returns-then-s-at : goal.returns-then-s-at

@@ -1,8 +1,5 @@
 use borrow.Author.Rules.{rules}
-use Rattle.stores.specs.Catalogue.{are_zeros}
-use lib.ListN.{length, drop}
-use Prim.Native.Nat.{◌≤◌, ◌-◌}
-use mathlib.Core.Path.{◌≡◌, refl, sym, ◌∙◌}
+use mathlib.Core.Path.{sym, ◌∙◌}
 use Rattle.catalogue.proofs.NumberLaws.{zeros-on, zeros-off, zeros-end}
 use Rattle.catalogue.proofs.number.all_zeros.Goals as goal
 

@@ -1,9 +1,7 @@
-use borrow.Author.Rules.{rules}
 use Rattle.stores.specs.Catalogue.{are_zeros}
 use lib.ListN.{length, drop}
 use Prim.Native.Nat.{◌≤◌, ◌-◌}
-use mathlib.Core.Path.{◌≡◌, refl, sym, ◌∙◌}
-use Rattle.catalogue.proofs.NumberLaws.{zeros-on, zeros-off, zeros-end}
+use mathlib.Core.Path.{◌≡◌}
 use Rattle.catalogue.proofs.number.all_zeros.Given as goal
 
 abbrev pub invariant-loop-i : goal.invariant-loop-i

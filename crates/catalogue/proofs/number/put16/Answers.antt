@@ -1,5 +1,4 @@
 use Rattle.catalogue.proofs.NumberLaws.{put_two}
-use borrow.Author.Rules.{rules}
 use Rattle.catalogue.proofs.number.put16.Goals as goal
 
 pub returns : goal.returns

@@ -1,12 +1,6 @@
-use borrow.Author.Rules.{rules}
-use Rattle.catalogue.specs.Places.{Run}
-use Rattle.stores.specs.Catalogue.{Live}
-use mathlib.Core.List.{List}
-use lib.ListN.{length}
-use Prim.Native.Nat.{◌-◌}
 use native.Mathlib.Omega.{arith}
-use mathlib.Core.Path.{◌≡◌, sym, ◌∙◌}
-use Rattle.catalogue.proofs.SlotLaws.{Counting, count-start, count-on, count-end, counting-laid, bounds, head-room}
+use mathlib.Core.Path.{◌∙◌}
+use Rattle.catalogue.proofs.SlotLaws.{count-on, count-end, counting-laid, bounds, head-room}
 use Rattle.catalogue.proofs.tally.count_all.Goals as goal
 
 pub next_entry-next-requires : goal.next_entry-next-requires

@@ -1,5 +1,4 @@
 use Rattle.catalogue.proofs.SlotLaws.{raised-low, raised-high}
-use borrow.Author.Rules.{rules}
 use Rattle.catalogue.proofs.tally.count_in.Goals as goal
 
 pub returns-then-n-lt-TWICE : goal.returns-then-n-lt-TWICE

@@ -5,7 +5,6 @@ use native.Mathlib.Omega.{arith}
 use mathlib.Core.Path.{sym, ◌∙◌, ap}
 use Rattle.catalogue.proofs.PlaceLaws.{part-text, run-to}
 use Rattle.catalogue.proofs.SlotLaws.{bounds, head-room, laid_next, alone, found-there, found_nowhere}
-use borrow.Author.Rules.{rules}
 use Rattle.catalogue.proofs.tally.is_repeated.Goals as goal
 
 pub next_entry-next-requires : goal.next_entry-next-requires

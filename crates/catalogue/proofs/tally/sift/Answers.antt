@@ -1,6 +1,4 @@
-use Prim.Native.Nat.{◌-◌}
-use native.Mathlib.Omega.{arith}
-use Rattle.catalogue.proofs.SlotLaws.{Sieves, sieve-start, sifted, sieve-out, sieve-on, sieve-end, bounds, head-room}
+use Rattle.catalogue.proofs.SlotLaws.{sifted, sieve-out, sieve-on, sieve-end, head-room}
 use Rattle.catalogue.proofs.tally.sift.Goals as goal
 
 pub returns-then-is_repeated : goal.returns-then-is_repeated

@@ -1,6 +1,5 @@
 use Prim.Native.Nat.{◌-◌}
-use native.Mathlib.Omega.{arith}
-use Rattle.catalogue.proofs.SlotLaws.{Sieves, sieve-start, sifted, sieve-out, sieve-on, sieve-end, bounds, head-room}
+use Rattle.catalogue.proofs.SlotLaws.{Sieves}
 use Rattle.catalogue.proofs.tally.sift.Given as goal
 
 abbrev pub invariant-loop-at : goal.invariant-loop-at

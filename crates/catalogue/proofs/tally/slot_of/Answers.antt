@@ -1,10 +1,10 @@
 use borrow.Author.Rules.{rules}
 use Rattle.catalogue.specs.Slots.{slot_of}
 use native.Mathlib.Nat.{mod-lt}
-use lib.ListN.{length, drop}
-use Prim.Native.Nat.{ℕ, ◌+◌, ◌-◌, ◌*◌, ◌%◌, ◌≤◌, ◌<◌}
+use lib.ListN.{drop}
+use Prim.Native.Nat.{ℕ, ◌+◌, ◌*◌, ◌%◌}
 use native.Mathlib.Omega.{arith}
-use mathlib.Core.Path.{◌≡◌, refl, sym, ◌∙◌, ap}
+use mathlib.Core.Path.{sym, ◌∙◌, ap}
 use Rattle.catalogue.proofs.SlotLaws.{slot-on, slot-end}
 use Rattle.catalogue.proofs.tally.slot_of.Goals as goal
 

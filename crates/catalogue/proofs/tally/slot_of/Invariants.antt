@@ -1,11 +1,7 @@
-use borrow.Author.Rules.{rules}
 use Rattle.catalogue.specs.Slots.{slot_of}
-use native.Mathlib.Nat.{mod-lt}
 use lib.ListN.{length, drop}
-use Prim.Native.Nat.{ℕ, ◌+◌, ◌-◌, ◌*◌, ◌%◌, ◌≤◌, ◌<◌}
-use native.Mathlib.Omega.{arith}
-use mathlib.Core.Path.{◌≡◌, refl, sym, ◌∙◌, ap}
-use Rattle.catalogue.proofs.SlotLaws.{slot-on, slot-end}
+use Prim.Native.Nat.{◌-◌, ◌≤◌, ◌<◌}
+use mathlib.Core.Path.{◌≡◌}
 use Rattle.catalogue.proofs.tally.slot_of.Given as goal
 
 abbrev pub invariant-loop-i : goal.invariant-loop-i
