@@ -79,11 +79,13 @@ own-height q e h k f g l = go (eqb (rank q) 13) refl l
 split-left : (a b : List Want) (n : ℕ) → n ≡ length a + length b → (ks : List ℕ) → Pairs Within (a ++ b) (take n ks) → Pairs Within a (take (length a) ks)
 split-left [] b n e ks ps = no_pairs
 split-left (w ∷ a) b zero e ks ps = absurd (omega arith)
+split-left (w ∷ a) b (suc n) e [] ps = elim ps [ ]
 split-left (w ∷ a) b (suc n) e (k ∷ ks) (pairing p ps) = pairing p (split-left a b n (omega arith) ks ps)
 
 split-right : (a b : List Want) (n : ℕ) → n ≡ length a + length b → (ks : List ℕ) → Pairs Within (a ++ b) (take n ks) → Pairs Within b (take (length b) (drop (length a) ks))
 split-right [] b n e ks ps = let z : n ≡ length b = omega arith in rw z at ps
 split-right (w ∷ a) b zero e ks ps = absurd (omega arith)
+split-right (w ∷ a) b (suc n) e [] ps = elim ps [ ]
 split-right (w ∷ a) b (suc n) e (k ∷ ks) (pairing p ps) = split-right a b n (omega arith) ks ps
 
 role-within : (d : ℕ) (p : Role) (k : ℕ) → Within (wanted d p) k → k ≤ d
@@ -114,6 +116,9 @@ beside-height w ws h ks i f ps =
     rw (under-many w h i f) at a
 
 line-within : (w : Want) (h : Head) (k : ℕ) → Inner w → fits w (rank (place h)) ≡ true → beyond w h ≡ ok h → k ≤ deeper w → Within w (rise (rule h) k)
+line-within (first _) h k i f g l = elim i [ ]
+line-within (clauses _) h k i f g l = elim i [ ]
+line-within (bindings _ _) h k i f g l = elim i [ ]
 line-within (at q e) h k i f g l = own-height q e h k f g l
 
 -- each tree stands at most as high as its want allows

@@ -462,7 +462,7 @@ same-depth levels p n = rw (ne_eqb (rank p) 13 n)
 expression : (p : Place) → rank p ≡ 13 → p ≡ expression_place
 unfolding rank
 expression p =
-    elim p [ first_place ↦ λ e. absurd (omega arith) | binding_place ↦ λ e. absurd (omega arith) | clause_place ↦ λ e. absurd (omega arith) | end_place ↦ λ e. absurd (omega arith) | projection_place ↦ λ e. absurd (omega arith) | set_item_place ↦ λ e. absurd (omega arith) | remove_item_place ↦ λ e. absurd (omega arith) | label_place ↦ λ e. absurd (omega arith) | parts_place ↦ λ e. absurd (omega arith) | part_place ↦ λ e. absurd (omega arith) | element_place ↦ λ e. absurd (omega arith) | entry_place ↦ λ e. absurd (omega arith) | item_place ↦ λ e. absurd (omega arith) | expression_place ↦ λ e. refl ]
+    elim p as (λ q. rank q ≡ 13 → q ≡ expression_place) [ first_place ↦ λ e. absurd (omega arith) | binding_place ↦ λ e. absurd (omega arith) | clause_place ↦ λ e. absurd (omega arith) | end_place ↦ λ e. absurd (omega arith) | projection_place ↦ λ e. absurd (omega arith) | set_item_place ↦ λ e. absurd (omega arith) | remove_item_place ↦ λ e. absurd (omega arith) | label_place ↦ λ e. absurd (omega arith) | parts_place ↦ λ e. absurd (omega arith) | part_place ↦ λ e. absurd (omega arith) | element_place ↦ λ e. absurd (omega arith) | entry_place ↦ λ e. absurd (omega arith) | item_place ↦ λ e. absurd (omega arith) | expression_place ↦ λ e. refl ]
 
 between : (p : ℕ) → (2 ≤ p) × (p ≤ 3) → (p ≡ 3 → ⊥) → p ≡ 2
 between p c n = omega (arith, c.0, c.1, n)
