@@ -29,7 +29,7 @@ pub check_in_list-requires : goal.check_in_list-requires
 check_in_list-requires c = member-in c.rule_of-rule.ensures c.in-10.is c.requires
 
 pub end_comprehension-requires : goal.end_comprehension-requires
-end_comprehension-requires c = let p = c.requires in last-in c.rule_of-rule.ensures (last-rule c.rule_of-rule.ensures c.in-0.rest p.at) p
+end_comprehension-requires c = let p = c.requires in last-in c.rule_of-rule.ensures (last-rule c.rule_of-rule.ensures (search rules) p.at) p
 
 pub returns-in-0 : goal.returns-in-0
 returns-in-0 c = settled (by-rule c.rule_of-rule.ensures) (omega (arith, c.in-0.is)) (quiet-constant c.in-0.is c.constant.ensures)
@@ -44,7 +44,7 @@ pub returns-in-3 : goal.returns-in-3
 returns-in-3 c = settled (by-rule c.rule_of-rule.ensures) (omega (arith, c.in-3.is)) (quiet-slice c.in-3.is c.end_slice.ensures)
 
 pub returns-in-4 : goal.returns-in-4
-returns-in-4 c = settled (by-rule c.rule_of-rule.ensures) (omega (arith, c.in-4.is)) (quiet-list c.in-4.is c.end_List.ensures)
+returns-in-4 c = settled (by-rule c.rule_of-rule.ensures) (omega (arith, c.in-4.is)) (quiet-list c.in-4.is c.end_list.ensures)
 
 pub returns-in-5 : goal.returns-in-5
 returns-in-5 c = settled (by-rule c.rule_of-rule.ensures) (omega (arith, c.in-5.is)) (quiet-map c.in-5.is)
@@ -65,4 +65,4 @@ pub returns-in-10 : goal.returns-in-10
 returns-in-10 c = end-in c.rule_of-rule.ensures c.in-10.is c.check_in_list.ensures
 
 pub returns-in_default : goal.returns-in_default
-returns-in_default c = end-last c.rule_of-rule.ensures (last-rule c.rule_of-rule.ensures c.in-0.rest c.requires.at) c.end_comprehension.ensures
+returns-in_default c = end-last c.rule_of-rule.ensures (last-rule c.rule_of-rule.ensures (search rules) c.requires.at) c.end_comprehension.ensures

@@ -42,4 +42,4 @@ pub returns-in-11 : goal.returns-in-11
 returns-in-11 c = keep-last c.in-11.is c.comprehension_child.ensures
 
 pub returns-in_default : goal.returns-in_default
-returns-in_default c = keep-none c.in-2.rest
+returns-in_default c = keep-none (search rules)
