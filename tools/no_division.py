@@ -23,7 +23,8 @@ KIT = Path(subprocess.run(["rt", "doc"], check=True, stdout=subprocess.PIPE, tex
 # what is no code
 NO_CODE = re.compile(r"""//[^\n]*|ghost use [^;]*;|(?:requires|ensures|invariant)[ \w]*\{[^{}]*\}|b?"(?:\\.|[^"\\])*"|b?'(?:\\.|[^'\\])'""")
 FUNCTION = re.compile(r"^(?:pub )?(?:extern \"\" )?fn (\w+).*?^}", re.M | re.S)
-MACROS = re.compile(r"\b(?:e?print(?:ln)?|write(?:ln)?|format(?:_args)?)!|\b(?:e?print(?:ln)?|to_string|fmt)\(")
+# (what goes to standard error is the system's reason, and no count)
+MACROS = re.compile(r"\b(?:print(?:ln)?|write(?:ln)?|format(?:_args)?)!|\.(?:print(?:ln)?|to_string|fmt)\(")
 
 
 def stop(why):

@@ -4,25 +4,24 @@
 
 ghost use Rattle.std.specs.Prelude.{◌≤◌, length};
 
-use libc::{STDIN_FILENO, STDOUT_FILENO};
+use std::io;
 
 // A refusal.
-fn say_refused(number: u32, place: u64) {
+fn say_refused(rt: &impl Print, number: u32, place: u64) -> io::Result<()> {
     let mut line = [0u8; 64];
     let n = report::refused_line(&mut line, 0, number as u64, place);
-    io::write_all(STDOUT_FILENO, &line[..n]);
+    rt.write_all(&line[..n])
 }
 
 // A line's outcome.
-fn say_regular(text: &[u8], work: &mut [u8], out: &mut [u8]) {
+fn say_regular(rt: &impl Print, text: &[u8], work: &mut [u8], out: &mut [u8]) -> io::Result<()> {
     let c = old::regular_line(text, work, out);
     if c.number != 0 {
-        say_refused(c.number, c.first);
-        return;
+        return say_refused(rt, c.number, c.first);
     }
     let n = c.first as usize;
-    io::write_all(STDOUT_FILENO, &out[..n]);
-    io::write_all(STDOUT_FILENO, b"\n");
+    rt.write_all(&out[..n])?;
+    rt.write_all(b"\n")
 }
 
 // Where the line ends: before a last LF.
@@ -39,16 +38,16 @@ fn line_end(text: &[u8]) -> usize
     n
 }
 
-fn say_line(text: &[u8], work: &mut [u8], out: &mut [u8]) {
+fn say_line(rt: &impl Print, text: &[u8], work: &mut [u8], out: &mut [u8]) -> io::Result<()> {
     let n = line_end(text);
-    say_regular(&text[..n], work, out);
+    say_regular(rt, &text[..n], work, out)
 }
 
 // There is room for two bytes more than an old line may have: a longer one, with or without its LF, is refused.
-fn main() {
+fn main(rt: HostRuntime) -> io::Result<()> {
     let mut text = [0u8; 4098];
-    let n = io::read_full(STDIN_FILENO, &mut text);
+    let n = input::read_full(&mut rt.stdin(), &mut text)?;
     let mut work = [0u8; 65536];
     let mut out = [0u8; 1024];
-    say_line(&text[..n], &mut work, &mut out);
+    say_line(&rt, &text[..n], &mut work, &mut out)
 }

@@ -8,7 +8,7 @@ ghost use Rattle.unifying.specs.Call.{settled_by};
 ghost use Rattle.replay.specs.Judged.{Decides, Judges};
 ghost use Rattle.replay.specs.Stored.{filled, work_byte, out_byte, Answers, stored_by, Agrees};
 
-use libc::{STDIN_FILENO, STDOUT_FILENO};
+use std::io;
 
 // What the two buffers are filled with before a call: bytes that no text has.
 const WORK_FILL: u8 = 170;
@@ -63,7 +63,7 @@ struct Want {
 
 // How many cases were met, differ and were skipped, the index of the first that differs, and whether the
 // case behind the last one is malformed.
-#[derive(Drop)]
+#[derive(Clone, Copy)]
 struct Tally {
     met: u64,
     differ: u64,
@@ -262,10 +262,11 @@ fn judge(c: unifying::Call, work: &[u8], out: &[u8], want: Want, expected: &[u8]
     ensures { Judges result (settled_by c.number c.first c.second work.now out.now
         ≡ stored_by want (length work.now) (length out.now) expected.now) }
 {
+    let number = c.number;
     if !is_answer(c, want) {
         return Verdict::Differs;
     }
-    if is_left(c.number, work, out, expected) {
+    if is_left(number, work, out, expected) {
         return Verdict::Same;
     }
     Verdict::Differs
@@ -426,14 +427,14 @@ fn replay_case(src: &[u8], at: usize) -> Outcome
 // One more case. There are fewer cases than bytes, so no sum wraps.
 fn tallied(t: Tally, v: Verdict) -> Tally {
     let mut n = t;
-    n.met = std::num::wrapping_add_u64(t.met, 1);
+    n.met = t.met.wrapping_add(1);
     match v {
         Verdict::Same => {}
         Verdict::Skipped => {
-            n.skipped = std::num::wrapping_add_u64(t.skipped, 1);
+            n.skipped = t.skipped.wrapping_add(1);
         }
         Verdict::Differs => {
-            n.differ = std::num::wrapping_add_u64(t.differ, 1);
+            n.differ = t.differ.wrapping_add(1);
             if t.differ == 0 {
                 n.first = t.met;
             }
@@ -474,39 +475,36 @@ fn replay_all(src: &[u8]) -> Tally {
     t
 }
 
-fn say(t: Tally) {
-    io::print_decimal(STDOUT_FILENO, std::num::wrapping_sub_u64(t.met, t.skipped));
-    io::write_all(STDOUT_FILENO, b" replayed, ");
-    io::print_decimal(STDOUT_FILENO, t.differ);
-    io::write_all(STDOUT_FILENO, b" differ, ");
-    io::print_decimal(STDOUT_FILENO, t.skipped);
-    io::write_all(STDOUT_FILENO, b" skipped");
-    if t.differ > 0 {
-        io::write_all(STDOUT_FILENO, b", the first that differs is case ");
-        io::print_decimal(STDOUT_FILENO, t.first);
+fn say(rt: &impl Print, t: Tally) -> io::Result<()> {
+    let replayed = t.met.wrapping_sub(t.skipped);
+    let differ = t.differ;
+    let skipped = t.skipped;
+    print!(rt; "{replayed} replayed, {differ} differ, {skipped} skipped")?;
+    if differ > 0 {
+        let first = t.first;
+        print!(rt; ", the first that differs is case {first}")?;
     }
     if t.malformed {
-        io::write_all(STDOUT_FILENO, b", malformed at case ");
-        io::print_decimal(STDOUT_FILENO, t.met);
+        let met = t.met;
+        print!(rt; ", malformed at case {met}")?;
     }
-    io::write_all(STDOUT_FILENO, b"\n");
+    println!(rt)
 }
 
-fn replay_input(src: &mut [u8]) {
-    let n = io::read_full(STDIN_FILENO, src);
+fn replay_input(rt: &(impl Print + Input), src: &mut [u8]) -> io::Result<()> {
+    let n = input::read_full(&mut rt.reader(), src)?;
     if n == src.len() {
-        io::write_all(STDOUT_FILENO, b"the input is too long\n");
-        return;
+        return println!(rt; "the input is too long");
     }
-    say(replay_all(&src[..n]));
+    say(rt, replay_all(&src[..n]))
 }
 
 // The array by its type: a proof then asks its length of no list of so many elements.
-fn replay_room(src: &mut [u8; ROOM]) {
-    replay_input(src);
+fn replay_room(rt: &(impl Print + Input), src: &mut [u8; ROOM]) -> io::Result<()> {
+    replay_input(rt, src)
 }
 
-fn main() {
+fn main(rt: HostRuntime) -> io::Result<()> {
     let mut src = [0u8; ROOM];
-    replay_room(&mut src);
+    replay_room(&rt, &mut src)
 }

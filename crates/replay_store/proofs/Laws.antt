@@ -1,5 +1,5 @@
 -- A call's answer beside the stored one, and a front with zeros behind it. Assumes nothing.
-use Rattle.std.proofs.Common.{◌≡◌, ℕ, zero, suc, ◌+◌, ◌-◌, ◌≤◌, Bool, true, false, eqb, ◌∷◌, ◌++◌, length, take, drop, sym, refl, ap, ◌∙◌, subst, arith, eqb-true}
+use Rattle.std.proofs.Common.{◌≡◌, ℕ, zero, suc, ◌+◌, ◌-◌, ◌≤◌, true, false, eqb, ◌∷◌, ◌++◌, length, take, drop, sym, refl, ap, ◌∙◌, subst, arith, eqb-true}
 use mathlib.Core.Bool.{false≢true}
 use lib.ListN.{length-replicate}
 use lib.Seq.{sets, sets-eq, take-append-add}
@@ -12,7 +12,7 @@ use Rattle.stores.proofs.Stored.{blank}
 use Rattle.replay_store.specs.declared.Want.{Want}
 use Rattle.replay_store.specs.declared.Kind.{Kind}
 use Rattle.replay_store.specs.declared.Verdict.{Verdict}
-use Rattle.replay_store.specs.declared.Verdict.TheVariants.{Same, Differs, Skipped}
+use Rattle.replay_store.specs.declared.Verdict.TheVariants.{Differs, Skipped}
 use Rattle.replay_store.specs.Judged.{Judges, Answers, Agrees, kept_of, padded}
 
 -- ## Verdicts that say nothing

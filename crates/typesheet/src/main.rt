@@ -6,7 +6,7 @@ ghost use Rattle.semantics.specs.Bytes.{text};
 ghost use Rattle.semantics.specs.Calls.{sheet_text};
 ghost use Rattle.report.specs.Report.{NumbersLine};
 
-use libc::{STDIN_FILENO, STDOUT_FILENO};
+use std::io;
 
 // One byte more than a sheet may have: a longer input fills it, and is refused.
 const SHEET_ROOM: usize = 65536;
@@ -35,10 +35,10 @@ fn print_sheet(sheet: &[u8], out: &mut [u8]) -> usize
     say_refused(out, c.number as u64, c.first)
 }
 
-fn main() {
+fn main(rt: HostRuntime) -> io::Result<()> {
     let mut sheet = [0u8; SHEET_ROOM];
-    let read = io::read_full(STDIN_FILENO, &mut sheet);
+    let read = input::read_full(&mut rt.stdin(), &mut sheet)?;
     let mut out = [0u8; REPORT_ROOM];
     let n = print_sheet(&sheet[..read], &mut out);
-    io::write_all(STDOUT_FILENO, &out[..n]);
+    rt.write_all(&out[..n])
 }

@@ -36,7 +36,9 @@ pub fn enter(store: &mut [u8], line: &[u8], out: &mut [u8]) -> Said
     ensures { Answers (entering line.now) store.old store.new out.old out.new result }
 {
     let c = catalogue::enter(store, line);
-    say(out, b"entered,", c, c.first, c.second)
+    let first = c.first;
+    let second = c.second;
+    say(out, b"entered,", c, first, second)
 }
 
 // Releases a use of a type.
@@ -44,7 +46,8 @@ pub fn release(store: &mut [u8], number: u64, out: &mut [u8]) -> Said
     ensures { Answers (releasing number) store.old store.new out.old out.new result }
 {
     let c = catalogue::release(store, number);
-    say(out, b"released,", c, number, c.first)
+    let uses = c.first;
+    say(out, b"released,", c, number, uses)
 }
 
 // What came of a look-up. A refusal has no uses, and its place is that 0.

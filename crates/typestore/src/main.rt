@@ -10,11 +10,15 @@ ghost use Rattle.typestore.specs.Files.{Within};
 
 use answer::{Said, enter, release, show};
 use catalogue::STORE_SIZE;
-use libc::{STDERR_FILENO, STDOUT_FILENO};
-use list::list;
+use std::env::FillError;
+use std::fs::{File, OpenFile, OpenOptions};
+use std::io::{ErrorKind, Write};
+use std::rt::{Env, Files};
+use std::str::from_utf8;
+use std::{fs, io};
 use text::Dec;
 
-#[derive(Drop)]
+#[derive(Clone, Copy)]
 enum Verb {
     Enter,
     Release,
@@ -39,26 +43,39 @@ const LINE_ROOM: usize = 1025;
 // The longest list has fewer bytes.
 const OUT_ROOM: usize = 393216;
 
+// The longest path, and one byte more.
+const PATH_ROOM: usize = 4096;
+
 // A path and `.new`.
 const NAME_ROOM: usize = 4100;
 
-fn usage() {
+// What cannot be printed is not told.
+fn print(rt: &impl Print, text: &[u8]) {
+    let _ = rt.write_all(text);
+}
+
+fn usage(rt: &impl Print) {
     let text = b"usage: typestore FILE enter LINE | FILE release N | FILE show N | FILE list\n";
-    io::write_all(STDOUT_FILENO, text);
+    print(rt, text);
 }
 
 // What the system refused: the reason goes to standard error.
-fn failed(what: &[u8]) {
-    os::fail(what);
-    io::write_all(STDOUT_FILENO, b"failed\n");
+fn failed(rt: &(impl Print + Eprint), what: &str, reason: io::Error) {
+    let _ = eprintln!(rt; "{what}: {reason}");
+    print(rt, b"failed\n");
+}
+
+// A path is text in the kit's library.
+fn no_name(rt: &(impl Print + Eprint)) {
+    let reason = io::Error::new(ErrorKind::InvalidFilename, "the name is not UTF-8");
+    failed(rt, "FILE", reason);
 }
 
 // What came of a call; a file that is no catalogue is named on standard error.
-fn say(path: &[u8], number: u32, text: &[u8]) {
-    io::write_all(STDOUT_FILENO, text);
+fn say(rt: &(impl Print + Eprint), path: &str, number: u32, text: &[u8]) {
+    print(rt, text);
     if number == semantics::WRONG_SIZE {
-        io::write_all(STDERR_FILENO, path);
-        io::write_all(STDERR_FILENO, b": no catalogue\n");
+        let _ = eprintln!(rt; "{path}: no catalogue");
     }
 }
 
@@ -102,7 +119,7 @@ fn call(verb: Verb, word: &[u8], store: &mut [u8], out: &mut [u8]) -> Said
         Verb::Enter => enter(store, word, out),
         Verb::Release => release(store, number(word), out),
         Verb::Show => show(store, number(word), out),
-        Verb::List => list(store, out),
+        Verb::List => list::list(store, out),
         Verb::Nothing => Said {
             number: semantics::ACCEPTED,
             length: 0,
@@ -110,68 +127,69 @@ fn call(verb: Verb, word: &[u8], store: &mut [u8], out: &mut [u8]) -> Said
     }
 }
 
-// An end of the file and a failure both end `read_full`: one more read tells them apart.
-fn read_store(path: &[u8], store: &mut [u8]) -> Read
+// What is read of a file, and whether the system failed is told.
+fn read_store<R: Files + Print + Eprint>(rt: &R, path: &str, store: &mut [u8]) -> Read
     requires { 65536 ≤ length store.old }
     ensures { Within (length store.new) result }
 {
-    let fd = os::open_read(path);
-    if fd < 0 {
-        if os::errno() == libc::ENOENT {
-            return Read::Is(STORE_SIZE);
+    let mut file = match File::open(rt, path) {
+        Ok(file) => file,
+        Err(e) => {
+            if e.kind() == ErrorKind::NotFound {
+                return Read::Is(STORE_SIZE);
+            }
+            failed(rt, path, e);
+            return Read::Failed;
         }
-        failed(path);
-        return Read::Failed;
+    };
+    match input::read_full(&mut file, store) {
+        Ok(n) => Read::Is(n),
+        Err(e) => {
+            failed(rt, path, e);
+            Read::Failed
+        }
     }
-    let n = io::read_full(fd, store);
-    let mut more = [0u8; 1];
-    let end = libc::read(fd, &mut more);
-    if end < 0 {
-        failed(path);
-        libc::close(fd);
-        return Read::Failed;
-    }
-    libc::close(fd);
-    Read::Is(n)
 }
 
 // Whether all of a new file's bytes are on their device.
-fn write_store(fd: i32, name: &[u8], store: &[u8]) -> bool {
-    if !io::write_all(fd, store) {
-        failed(name);
-        libc::close(fd);
+fn write_store<R: Files + Print + Eprint>(rt: &R, file: R::File, name: &str, store: &[u8]) -> bool {
+    let mut file = file;
+    if let Err(e) = file.write_all(store) {
+        failed(rt, name, e);
         return false;
     }
-    if libc::fsync(fd) < 0 {
-        failed(name);
-        libc::close(fd);
-        return false;
-    }
-    if libc::close(fd) < 0 {
-        failed(name);
+    if let Err(e) = file.sync_all() {
+        failed(rt, name, e);
         return false;
     }
     true
 }
 
 // Whether the new file, with these bytes, has become the old one.
-fn replace(fd: i32, path: &[u8], beside: &[u8], store: &[u8]) -> bool {
-    if !write_store(fd, beside, store) {
+fn replace<R: Files + Print + Eprint>(
+    rt: &R,
+    file: R::File,
+    path: &str,
+    beside: &str,
+    store: &[u8],
+) -> bool {
+    if !write_store(rt, file, beside, store) {
         return false;
     }
-    if os::rename(beside, path) < 0 {
-        failed(path);
+    if let Err(e) = fs::rename(rt, beside, path) {
+        failed(rt, path, e);
         return false;
     }
     true
 }
 
 // The call, and whether the new file has become the old one: not where the call changes nothing.
-fn settle(
-    fd: i32,
+fn settle<R: Files + Print + Eprint>(
+    rt: &R,
+    file: R::File,
     verb: Verb,
-    path: &[u8],
-    beside: &[u8],
+    path: &str,
+    beside: &str,
     word: &[u8],
     store: &mut [u8],
     out: &mut [u8],
@@ -183,84 +201,125 @@ fn settle(
     let end = said.length;
     let mut is_new = false;
     if number == semantics::ACCEPTED {
-        is_new = replace(fd, path, beside, store);
+        is_new = replace(rt, file, path, beside, store);
         if !is_new {
             return false;
         }
-    } else {
-        libc::close(fd);
     }
-    say(path, number, &out[..end]);
+    say(rt, path, number, &out[..end]);
     is_new
 }
 
-fn settle_file(
-    fd: i32,
+fn settle_file<R: Files + Print + Eprint>(
+    rt: &R,
+    file: R::File,
     verb: Verb,
-    path: &[u8],
-    beside: &[u8],
+    path: &str,
+    beside: &str,
     word: &[u8],
     store: &mut [u8],
     out: &mut [u8],
 ) -> bool
     requires { (length store.old ≡ 65537) × (393216 ≤ length out.old) }
 {
-    let Read::Is(n) = read_store(path, store) else {
-        libc::close(fd);
+    let Read::Is(n) = read_store(rt, path, store) else {
         return false;
     };
-    settle(fd, verb, path, beside, word, &mut store[..n], out)
+    settle(rt, file, verb, path, beside, word, &mut store[..n], out)
 }
 
 // Enter and release: the new file is made first, so that no two change one store at a time.
-fn change(verb: Verb, path: &[u8], word: &[u8], store: &mut [u8], out: &mut [u8])
+fn change<R: Files + Print + Eprint>(
+    rt: &R,
+    verb: Verb,
+    path: &[u8],
+    word: &[u8],
+    store: &mut [u8],
+    out: &mut [u8],
+)
     requires { (length path.now ≤ 4096) × (length store.old ≡ 65537) × (393216 ≤ length out.old) }
 {
     let mut name = [0u8; NAME_ROOM];
     let n = text::append(&mut name, 0, path);
     let end = text::append(&mut name, n, b".new");
-    let fd = os::create(&name[..end]);
-    if fd < 0 {
-        failed(&name[..end]);
+    let (Ok(path), Ok(beside)) = (from_utf8(path), from_utf8(&name[..end])) else {
+        no_name(rt);
         return;
-    }
-    if !settle_file(fd, verb, path, &name[..end], word, store, out) {
-        os::unlink(&name[..end]);
+    };
+    let file = match OpenOptions::new()
+        .write(true)
+        .create_new(true)
+        .open(rt, beside)
+    {
+        Ok(file) => file,
+        Err(e) => {
+            failed(rt, beside, e);
+            return;
+        }
+    };
+    if !settle_file(rt, file, verb, path, beside, word, store, out) {
+        let _ = fs::remove_file(rt, beside);
     }
 }
 
-fn tell(verb: Verb, path: &[u8], word: &[u8], store: &mut [u8], out: &mut [u8])
+fn tell(
+    rt: &(impl Print + Eprint),
+    verb: Verb,
+    path: &str,
+    word: &[u8],
+    store: &mut [u8],
+    out: &mut [u8],
+)
     requires { (length store.old ≤ 65537) × (393216 ≤ length out.old) }
 {
     let said = call(verb, word, store, out);
     let end = said.length;
-    say(path, said.number, &out[..end]);
+    say(rt, path, said.number, &out[..end]);
 }
 
 // Show and list.
-fn look(verb: Verb, path: &[u8], word: &[u8], store: &mut [u8], out: &mut [u8])
+fn look<R: Files + Print + Eprint>(
+    rt: &R,
+    verb: Verb,
+    path: &[u8],
+    word: &[u8],
+    store: &mut [u8],
+    out: &mut [u8],
+)
     requires { (length store.old ≡ 65537) × (393216 ≤ length out.old) }
 {
-    let Read::Is(n) = read_store(path, store) else {
+    let Ok(path) = from_utf8(path) else {
+        no_name(rt);
         return;
     };
-    tell(verb, path, word, &mut store[..n], out);
+    let Read::Is(n) = read_store(rt, path, store) else {
+        return;
+    };
+    tell(rt, verb, path, word, &mut store[..n], out);
 }
 
-fn run(verb: Verb, path: &[u8], word: &[u8], store: &mut [u8], out: &mut [u8])
+fn run<R: Files + Print + Eprint>(
+    rt: &R,
+    verb: Verb,
+    path: &[u8],
+    word: &[u8],
+    store: &mut [u8],
+    out: &mut [u8],
+)
     requires { (length path.now ≤ 4096) × (length store.old ≡ 65537) × (393216 ≤ length out.old) }
 {
     match verb {
-        Verb::Enter => change(verb, path, word, store, out),
-        Verb::Release => change(verb, path, word, store, out),
-        Verb::Show => look(verb, path, word, store, out),
-        Verb::List => look(verb, path, word, store, out),
-        Verb::Nothing => usage(),
+        Verb::Enter => change(rt, verb, path, word, store, out),
+        Verb::Release => change(rt, verb, path, word, store, out),
+        Verb::Show => look(rt, verb, path, word, store, out),
+        Verb::List => look(rt, verb, path, word, store, out),
+        Verb::Nothing => usage(rt),
     }
 }
 
 // The arrays by their types: a proof then asks their lengths of no list of so many elements.
-fn run_in(
+fn run_in<R: Files + Print + Eprint>(
+    rt: &R,
     verb: Verb,
     path: &[u8],
     word: &[u8],
@@ -269,35 +328,48 @@ fn run_in(
 )
     requires { length path.now ≤ 4096 }
 {
-    run(verb, path, word, store, out);
+    run(rt, verb, path, word, store, out);
 }
 
 // The third word, or as much of it as there is room for.
-fn last_word(buf: &mut [u8]) -> usize
+fn last_word(env: &impl Env, buf: &mut [u8]) -> usize
     ensures { result ≤ length buf.new }
 {
-    let n = os::arg(3, buf);
-    if os::errno() == libc::ENAMETOOLONG {
-        return buf.len();
+    match env.arg(3, buf) {
+        Ok(n) => n,
+        Err(FillError::TooLong) => buf.len(),
+        Err(FillError::NotPresent) => 0,
     }
-    n
 }
 
-fn main() {
-    let mut path = io::buffer();
-    let n = os::arg(1, &mut path);
-    if os::errno() != 0 {
-        usage();
-        return;
+// How many words there are, as far as five.
+fn arg_count(env: &impl Env) -> usize {
+    for i in 0..5 {
+        if let Err(FillError::NotPresent) = env.arg(i, &mut []) {
+            return i;
+        }
     }
+    5
+}
+
+fn main(rt: HostRuntime) {
+    let mut path = [0u8; PATH_ROOM];
+    let Ok(n) = rt.arg(1, &mut path) else {
+        usage(&rt);
+        return;
+    };
     let mut first = [0u8; 8];
-    let f = os::arg(2, &mut first);
+    let Ok(f) = rt.arg(2, &mut first) else {
+        usage(&rt);
+        return;
+    };
     let mut word = [0u8; LINE_ROOM];
-    let w = last_word(&mut word);
+    let w = last_word(&rt, &mut word);
     let mut store = [0u8; STORE_ROOM];
     let mut out = [0u8; OUT_ROOM];
     run_in(
-        asked(&first[..f], os::arg_count()),
+        &rt,
+        asked(&first[..f], arg_count(&rt)),
         &path[..n],
         &word[..w],
         &mut store,
