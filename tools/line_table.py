@@ -172,7 +172,7 @@ def main():
     # the words by number, and that each is listed
     put("semantics/proofs/Words.antt", ("Sheet.{Word, ", ", words, word_in", names), ("    elim v as (λ w. word_in (text (row w).spelled) words ≡ some w) [ ", " ]\n", " | ".join(f"{w} ↦ refl" for w in WORDS)))
     numbers = "".join(f"word_no {w} = {i}\n" for w, i in NUMBER.items())
-    put("line/specs/Rows.antt", ("Sheet.{Word, ", ", row, words", names),
+    put("line/specs/Rows.antt", ("Sheet.{Word, ", ", row}", names),
         ("word_no : Word → ℕ\n", "\n-- the words by their numbers", numbers), ("numbered =\n    ", " ∷ []", " ∷ ".join(WORDS)))
     # packed rows
     fields = [63] + [r["fields"] for r in every]
@@ -194,7 +194,7 @@ def main():
           "use Rattle.semantics.specs.Bytes.{text}\nuse Rattle.semantics.specs.Sheet.{row, words}\n", "number_in word_no code_from text row",
           "rw c.in-{}.is", [code for code, _, _ in codes], "none-met c.args.code words (search rules)")
     proof("line.table.row_of", "an arm's number is the word's, and its row above it; where no arm is met no word is.",
-          "use mathlib.Core.Path.{refl, ap}\nuse Prim.Native.Nat.{ℕ, ◌+◌, ◌*◌}\nuse lib.ListN.{get_or}\nuse Rattle.line.specs.Arrays.{field_rows}\n"
+          "use mathlib.Core.Path.{ap}\nuse Prim.Native.Nat.{ℕ, ◌+◌, ◌*◌}\nuse lib.ListN.{get_or}\nuse Rattle.line.specs.Arrays.{field_rows}\n"
           "use Rattle.line.specs.Rows.{word_no, code_from, number_in}\nuse Rattle.line.proofs.Words.{none-met}\n"
           "use Rattle.semantics.specs.Bytes.{text}\nuse Rattle.semantics.specs.Sheet.{row, words}\n", "number_in word_no code_from text row field_rows",
           "rw c.in-{}.is", [code for code, _, _ in whole], "ap (λ (n : ℕ). n + 64 * get_or field_rows n 0) (none-met c.args.code words (search rules))")

@@ -1,7 +1,7 @@
 -- The search of a binding: each line read leaves fewer. Assumes nothing.
 use mathlib.Core.Path.{◌≡◌, refl, sym, ◌∙◌, ap, subst}
 use mathlib.Core.List.{List, [], ◌∷◌, ◌++◌}
-use mathlib.Core.Option.{Option, none, some}
+use mathlib.Core.Option.{Option, some}
 use mathlib.Core.Bool.{Bool, true, false, ◌&&◌}
 use Prim.Native.Nat.{ℕ, suc, zero, ◌+◌, ◌-◌, ◌≤◌, ◌<◌}
 use native.Mathlib.Decide.{dec_lt}
@@ -11,7 +11,7 @@ use lib.ListN.{length, get_or, drop, length-drop}
 use lib.Seq.{get_or-drop, drop-drop}
 use borrow.Author.Tests.{eq-eqb, ne_eqb, eqb-true, leb-true}
 use Rattle.semantics.specs.Bytes.{Bytes, front, split}
-use Rattle.semantics.specs.Sheet.{Head, num, variable_of, number, lettered, rank, place, Want, clauses, fits, beyond, under}
+use Rattle.semantics.specs.Sheet.{Head, num, variable_of, number, lettered, rank, place, clauses, fits}
 use Rattle.semantics.specs.Walk.{kind_type, var_type_in, binds, bound_by, bound}
 use Rattle.hir.specs.Check.{Laid}
 use Rattle.hir.specs.declared.valid.Outline.{Outline}

@@ -1,19 +1,16 @@
 -- The validation of the lines under a line: each step of its loop on plain values. Assumes nothing.
 use mathlib.Core.Path.{◌≡◌, refl, sym, ◌∙◌, ap}
-use mathlib.Core.List.{List, [], ◌∷◌, ◌++◌, map, append-nil, append_assoc}
-use mathlib.Core.Bool.{Bool, true, false, cond, ◌&&◌, ◌||◌}
-use Prim.Native.Nat.{ℕ, suc, zero, ◌+◌, ◌-◌, ◌*◌, ◌/◌, ◌%◌, ◌≤◌, ◌<◌}
+use mathlib.Core.List.{List, [], ◌∷◌, ◌++◌, map, append-nil}
+use mathlib.Core.Bool.{Bool, true, false, cond, ◌&&◌}
+use Prim.Native.Nat.{ℕ, suc, zero, ◌+◌, ◌-◌, ◌*◌, ◌≤◌, ◌<◌}
 use native.Mathlib.Numerals.{add-one}
-use native.Mathlib.Decide.{dec_lt}
 use native.Mathlib.Omega.{arith}
-use lib.Dec.{eqb, ltb, leb}
+use lib.Dec.{eqb, ltb}
 use lib.ListN.{length, get_or, drop, replicate}
-use borrow.Author.Tests.{eqb-true, eqb-false, ltb-true, ltb-false, leb-true, ne_eqb, eq-eqb, le-ltb, lt-ltb}
-use Rattle.semantics.specs.Limits.{depth_limit}
+use borrow.Author.Tests.{eqb-true, eqb-false, ltb-true, ltb-false, ne_eqb, eq-eqb, le-ltb, lt-ltb}
 use Rattle.semantics.specs.Bytes.{Bytes, split}
-use Rattle.semantics.specs.Sheet.{Word, Head, Place, Read, bad, ok, Want, first, clauses, bindings, at, wanted, deeper, row, rank, place, roles, fits, beyond, after, under, read_line}
-use Rattle.line.specs.Arrays.{classes, groups, seconds}
-use Rattle.line.specs.Rows.{word_no}
+use Rattle.semantics.specs.Sheet.{Head, Read, bad, ok, Want, at, wanted, deeper, rank, place, roles, fits, beyond, after, under}
+use Rattle.line.specs.Arrays.{groups, seconds}
 use Rattle.line.specs.Line.{HeadIs, ReadAs}
 use Rattle.line.specs.declared.line.Head.{Head as Seen}
 use Rattle.line.specs.declared.line.HirId.{HirId}
@@ -24,7 +21,7 @@ use Rattle.hir.specs.declared.valid.Check.{Check}
 use Rattle.hir.specs.declared.valid.Check.TheVariants.{Fine, Refused}
 use Rattle.hir.specs.declared.valid.Kids.{Kids}
 use Rattle.hir.proofs.RunLaws.{behind-none, behind-append, before-behind, run-append, run_none, behind-passed}
-use Rattle.hir.proofs.PlaceLaws.{class_of, rank-place, Fit, line-unfit, line-wrong, line-fit, class-is, kids-of, Under, first_under, second-under, carry-bad, carry-ok}
+use Rattle.hir.proofs.PlaceLaws.{class_of, rank-place, line-unfit, line-wrong, line-fit, class-is, kids-of, Under, first_under, second-under, carry-bad, carry-ok}
 
 -- ## The wants of two groups
 

@@ -2,17 +2,17 @@
 use mathlib.Core.Path.{◌≡◌, refl, sym, ◌∙◌, ap}
 use mathlib.Core.List.{List, [], ◌∷◌, ◌++◌, map, append-nil}
 use mathlib.Core.Bool.{Bool, true, false, cond, ◌&&◌}
-use Prim.Native.Nat.{ℕ, suc, zero, ◌+◌, ◌-◌, ◌*◌, ◌/◌, ◌%◌, ◌≤◌, ◌<◌}
+use Prim.Native.Nat.{ℕ, suc, zero, ◌+◌, ◌*◌, ◌/◌, ◌%◌, ◌≤◌, ◌<◌}
 use native.Mathlib.Omega.{arith}
 use lib.Dec.{eqb, ltb, leb}
 use borrow.Author.Tests.{ltb-true, leb-true}
-use lib.ListN.{length, get_or, replicate}
+use lib.ListN.{get_or, replicate}
 use Rattle.semantics.specs.Sheet.{kids, Word, Shape, nothing, one, two, bounds, arms, times, times_then, around, one_then, one_times, Field, Place, first_place, binding_place, clause_place, end_place, projection_place, set_item_place, remove_item_place, label_place, parts_place, part_place, element_place, entry_place, item_place, expression_place, Role, plain, condition, answer, inner, low, high, present, arm_roles, Want, at, wanted, row, rank}
 use Rattle.semantics.proofs.Words.{every, holds}
 use Rattle.line.specs.Arrays.{slots_of, place_of, group, group_of, second_of, slots, groups, seconds}
 use Rattle.line.specs.Rows.{word_no, numbered}
 use Rattle.line.specs.Line.{most}
-use Rattle.hir.specs.Kids.{place_at, group_size, two_groups, kid_wants, level}
+use Rattle.hir.specs.Kids.{place_at, group_size, two_groups, kid_wants}
 
 module _ (d n m : ℕ) (a b : Want) where
   none-kids : n ≡ 0 → m ≡ 0 → [] ≡ two_groups n a m b

@@ -2,20 +2,18 @@
 use mathlib.Core.Path.{◌≡◌, refl, sym, ◌∙◌, ap, subst}
 use mathlib.Core.List.{List, [], ◌∷◌, ◌++◌, append_assoc, append-nil, map}
 use mathlib.Core.Option.{Option, none, some}
-use mathlib.Core.Bool.{Bool, true, false, cond, ◌&&◌}
-use Prim.Native.Nat.{ℕ, suc, zero, ◌+◌, ◌-◌, ◌/◌, ◌%◌, ◌≤◌, ◌<◌}
+use mathlib.Core.Bool.{Bool, true, false, ◌&&◌}
+use Prim.Native.Nat.{ℕ, suc, ◌+◌, ◌≤◌, ◌<◌}
 use native.Mathlib.Omega.{arith}
-use native.Mathlib.Nat.{add-zero}
 use lib.Dec.{eqb, ltb}
-use lib.ListN.{length, get_or, drop, replicate, length-drop, length-append}
-use borrow.Author.Tests.{eqb-true, ltb-true, eq-eqb}
+use lib.ListN.{length, drop, length-drop, length-append}
+use borrow.Author.Tests.{eqb-true, ltb-true}
 use lib.Seq.{drop-drop}
-use Rattle.semantics.specs.Limits.{depth_limit}
 use Rattle.semantics.specs.Bytes.{Bytes, front, split}
 use Rattle.semantics.specs.Sheet.{kids, Word, Place, projection_place, set_item_place, remove_item_place, label_place, parts_place, part_place, element_place, entry_place, item_place, expression_place, Role, plain, condition, answer, inner, present, arm_roles, deeper, Head, variable_of, rank, place, row, Read, bad, ok, and_then, Field, variable, letter, Value, wrong, number, variable_v, value, into, fill, bare, words, word_in, Want, first, clauses, bindings, at, wanted, fits, beyond, under, after, roles, arity, read_line, Sheet, refused, heads, add, check, sheet}
-use Rattle.semantics.specs.Walk.{Env, Res, step, walk}
+use Rattle.semantics.specs.Walk.{Env, walk}
 use Rattle.semantics.proofs.All.{All, empty, also}
-use Rattle.semantics.proofs.Words.{every-where, holds, named, each, kids-each}
+use Rattle.semantics.proofs.Words.{holds, named, each, kids-each}
 use Rattle.semantics.proofs.Split.{split-inj}
 use Rattle.line.specs.Line.{Plain, unknown, known, word_says, pieces_say, line_says, placed, HeadIs, SaysAs, ReadAs}
 use Rattle.line.specs.declared.line.Head.{Head as Seen}
@@ -23,10 +21,10 @@ use Rattle.line.proofs.ReadLaws.{placed-line, fill-word}
 use Rattle.line.proofs.LineLaws.{split-some}
 use Rattle.line.proofs.KnownLaws.{same_place, bind-fields}
 use Rattle.line.proofs.FillLaws.{Says, says, faulty, a-letter, a-variable, value-at}
-use Rattle.hir.specs.Run.{Run, stopped, passed, before, carry_on, at_end, run, behind, add_all, finish}
+use Rattle.hir.specs.Run.{Run, stopped, passed, before, carry_on, at_end, run, add_all, finish}
 use Rattle.hir.proofs.RunLaws.{check-run}
 use Rattle.hir.proofs.CheckLaws.{after_none}
-use Rattle.hir.specs.Lines.{LineAt, Lines, no_line, a-line, Met, all-met, meets, Ascends, no-binding, ascends}
+use Rattle.hir.specs.Lines.{LineAt, Lines, no_line, a-line, Met, all-met, meets}
 
 -- ## Where the next line starts
 

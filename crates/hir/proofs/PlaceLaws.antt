@@ -1,24 +1,24 @@
 -- A line at a place, by what was read of it; and the places of a line's children. Assumes nothing.
 use mathlib.Core.Path.{◌≡◌, refl, sym, ◌∙◌, ap}
-use mathlib.Core.List.{List, [], ◌∷◌, ◌++◌, map, append-nil}
-use mathlib.Core.Bool.{Bool, true, false, cond, ◌&&◌, ◌||◌}
-use Prim.Native.Nat.{ℕ, suc, zero, ◌+◌, ◌-◌, ◌*◌, ◌/◌, ◌%◌, ◌≤◌, ◌<◌}
+use mathlib.Core.List.{List, [], ◌∷◌, ◌++◌, map}
+use mathlib.Core.Bool.{Bool, true, false, ◌&&◌, ◌||◌}
+use Prim.Native.Nat.{ℕ, suc, zero, ◌/◌, ◌%◌, ◌≤◌, ◌<◌}
 use native.Mathlib.Omega.{arith}
 use lib.Dec.{eqb, ltb, leb}
-use lib.ListN.{length, get_or, drop, replicate}
-use borrow.Author.Tests.{eqb-true, eqb-false, ltb-true, leb-true, ne_eqb, eq-eqb, le-ltb, lt-ltb}
+use lib.ListN.{length, get_or, drop}
+use borrow.Author.Tests.{ltb-true, leb-true, ne_eqb}
 use Rattle.semantics.specs.Bytes.{Bytes, split}
-use Rattle.semantics.specs.Sheet.{Word, Head, variable_of, Place, first_place, binding_place, clause_place, end_place, projection_place, set_item_place, remove_item_place, label_place, parts_place, part_place, element_place, entry_place, item_place, expression_place, Read, bad, ok, and_then, Want, first, clauses, bindings, at, wanted, deeper, row, rank, place, roles, fits, beyond, after, under, read_line}
+use Rattle.semantics.specs.Sheet.{Word, Head, Place, first_place, binding_place, clause_place, end_place, projection_place, set_item_place, remove_item_place, label_place, parts_place, part_place, element_place, entry_place, item_place, expression_place, Read, bad, ok, and_then, Want, first, clauses, bindings, at, wanted, row, rank, place, roles, fits, beyond, under, read_line}
 use Rattle.semantics.proofs.Words.{holds}
 use Rattle.line.specs.Arrays.{group_of, second_of, classes, slots, groups, seconds}
 use Rattle.line.specs.Rows.{word_no, numbered}
-use Rattle.line.specs.Line.{Plain, unknown, known, line_says, placed, most, Ranged, flag_of, count_of, HeadIs, SaysAs, ReadAs}
+use Rattle.line.specs.Line.{Plain, unknown, known, line_says, placed, flag_of, count_of, HeadIs, SaysAs, ReadAs}
 use Rattle.line.specs.declared.line.Head.{Head as Seen}
 use Rattle.line.proofs.Rows.{class-rule, word-range, flag-rule, counted-rule}
 use Rattle.line.proofs.ReadLaws.{placed-line}
-use Rattle.hir.specs.Run.{Run, stopped, passed, before, carry_on, at_end, run}
+use Rattle.hir.specs.Run.{Run, stopped, before, carry_on, at_end, run}
 use Rattle.hir.specs.Lines.{LineAt}
-use Rattle.hir.specs.Kids.{place_at, group_size, two_groups, kid_wants, level}
+use Rattle.hir.specs.Kids.{place_at, kid_wants, level}
 use Rattle.hir.proofs.KidLaws.{kids-rule}
 
 -- ## Classes

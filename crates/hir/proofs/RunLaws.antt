@@ -3,7 +3,7 @@ use mathlib.Core.Path.{◌≡◌, refl, sym, ◌∙◌, ap}
 use mathlib.Core.List.{List, [], ◌∷◌, ◌++◌, append_assoc, append-nil}
 use Prim.Native.Nat.{ℕ, suc}
 use Rattle.semantics.specs.Bytes.{Bytes}
-use Rattle.semantics.specs.Sheet.{Head, Read, bad, ok, Want, under, read_line, Sheet, refused, heads, add, carry, check}
+use Rattle.semantics.specs.Sheet.{Head, Read, bad, ok, Want, under, read_line, add, carry, check}
 use Rattle.hir.specs.Run.{Run, stopped, passed, before, carry_on, at_end, run, behind, and_go, add_all, finish}
 
 -- ## Heads before a reading

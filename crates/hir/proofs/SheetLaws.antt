@@ -1,29 +1,28 @@
 -- The whole sheet, from what its parts are found. Assumes nothing.
 use mathlib.Core.Path.{◌≡◌, refl, sym, ◌∙◌, ap}
-use mathlib.Core.List.{List, [], ◌∷◌, ◌++◌, append-nil}
+use mathlib.Core.List.{List, [], ◌∷◌, ◌++◌}
 use mathlib.Core.Bool.{Bool, true, false}
-use Prim.Native.Nat.{ℕ, suc, zero, ◌+◌, ◌-◌, ◌≤◌, ◌<◌}
+use Prim.Native.Nat.{ℕ, ◌<◌}
 use native.Mathlib.Omega.{arith}
 use lib.Dec.{eqb}
 use lib.ListN.{length, drop, length-drop}
 use borrow.Author.Tests.{eqb-true, eqb-false, eq-eqb}
 use Rattle.semantics.specs.Bytes.{Bytes, split}
-use Rattle.semantics.specs.Sheet.{Head, rank, place, Read, bad, ok, Want, first, clauses, bindings, fits, beyond, under, Sheet, refused, heads, add, check, sheet}
+use Rattle.semantics.specs.Sheet.{Head, rank, place, Want, first, clauses, bindings, fits, beyond, Sheet, refused, heads, add, check, sheet}
 use Rattle.semantics.proofs.Causes.{sheet-fine, FineSheet}
 use Rattle.semantics.proofs.Split.{split-inj}
-use Rattle.line.specs.Line.{HeadIs, ReadAs}
+use Rattle.line.specs.Line.{ReadAs}
 use Rattle.line.specs.declared.line.Head.{Head as Seen}
 use Rattle.line.specs.declared.line.HirId.{HirId}
-use Rattle.hir.specs.Run.{Run, stopped, passed, before, carry_on, run, behind, add_all, finish}
-use Rattle.hir.specs.Lines.{LineAt, Lines, Met}
-use Rattle.hir.specs.Check.{pick_c, verdict_of, TopAsk, BoundAs, BindsAs, ClausesAs, RestLaid, RestAs, rest-refused, rest-laid, Laid, OutlineAs, is-refused, is-laid}
+use Rattle.hir.specs.Run.{stopped, before, run, add_all, finish}
+use Rattle.hir.specs.Check.{verdict_of, TopAsk, BoundAs, BindsAs, ClausesAs, RestAs, rest-refused, rest-laid, OutlineAs, is-refused, is-laid}
 use Rattle.hir.specs.declared.valid.Check.{Check}
 use Rattle.hir.specs.declared.valid.Check.TheVariants.{Fine, Refused}
 use Rattle.hir.specs.declared.valid.Outline.{Outline}
 use Rattle.hir.proofs.RunLaws.{before-behind, check-run}
 use Rattle.hir.proofs.PlaceLaws.{class_of, Fit, line-unfit, line-wrong, line-fit, class-is, carry-ok}
 use Rattle.hir.proofs.TopLaws.{add-refused, add-heads, finish-behind, under_first}
-use Rattle.hir.proofs.LinesLaws.{Passed, passed_lines, finish-heads}
+use Rattle.hir.proofs.LinesLaws.{passed_lines, finish-heads}
 
 -- ## Behind the first line
 

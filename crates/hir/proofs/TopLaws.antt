@@ -1,18 +1,18 @@
 -- The top of a sheet: its bindings, its clauses, its end. Assumes nothing.
 use mathlib.Core.Path.{◌≡◌, refl, sym, ◌∙◌, ap, subst}
-use mathlib.Core.List.{List, [], ◌∷◌, ◌++◌, map, append-nil, append_assoc}
-use mathlib.Core.Bool.{Bool, true, false, cond, not, ◌&&◌, ◌||◌}
-use Prim.Native.Nat.{ℕ, suc, zero, ◌+◌, ◌-◌, ◌*◌, ◌/◌, ◌%◌, ◌≤◌, ◌<◌}
+use mathlib.Core.List.{List, [], ◌∷◌, ◌++◌, append-nil}
+use mathlib.Core.Bool.{Bool, true, false, not, ◌&&◌}
+use Prim.Native.Nat.{ℕ, suc, ◌+◌, ◌-◌, ◌≤◌, ◌<◌}
 use native.Mathlib.Numerals.{add-one}
 use native.Mathlib.Omega.{arith}
 use lib.Dec.{eqb, ltb, leb}
-use lib.ListN.{length, get_or, drop, length-drop, length-append, drop_of_length-le}
+use lib.ListN.{length, drop, length-drop, length-append}
 use borrow.Author.Tests.{eqb-true, eqb-false, ltb-true, ltb-false, leb-true, ne_eqb, eq-eqb, le-ltb, lt-ltb, le-leb, lt-leb}
 use Rattle.semantics.specs.Bytes.{Bytes, front, split}
-use Rattle.semantics.specs.Sheet.{kids, Word, Shape, nothing, Head, variable_of, Place, Read, bad, ok, and_then, Want, first, clauses, bindings, at, wanted, deeper, row, rank, place, roles, fits, beyond, after, under, read_line, Sheet, refused, heads, add, check, sheet}
+use Rattle.semantics.specs.Sheet.{kids, Word, Shape, nothing, Head, variable_of, Read, bad, ok, Want, first, clauses, bindings, deeper, row, rank, place, roles, fits, beyond, after, under, Sheet, refused, heads, add, check}
 use Rattle.semantics.proofs.Words.{every-where}
 use Rattle.line.specs.Rows.{word_no}
-use Rattle.line.specs.Line.{Plain, unknown, known, line_says, placed, HeadIs, SaysAs, ReadAs}
+use Rattle.line.specs.Line.{Plain, unknown, known, line_says, placed, SaysAs, ReadAs}
 use Rattle.line.specs.declared.line.Head.{Head as Seen}
 use Rattle.line.specs.declared.line.HirId.{HirId}
 use Rattle.line.proofs.ReadLaws.{placed-line}
@@ -20,11 +20,11 @@ use Rattle.line.proofs.LineLaws.{split-some}
 use Rattle.hir.specs.Run.{Run, stopped, passed, before, carry_on, at_end, run, behind, and_go, add_all, finish}
 use Rattle.hir.specs.Kids.{kid_wants}
 use Rattle.hir.specs.Lines.{LineAt, Lines, no_line, a-line, Ascends, no-binding, ascends}
-use Rattle.hir.specs.Check.{pick_c, pick_e, verdict_of, FineAs, ChecksAs, KidsAsk, TopAsk, BoundAs, BindsAs, end_of, ClausesAs}
+use Rattle.hir.specs.Check.{pick_e, verdict_of, FineAs, ChecksAs, KidsAsk, TopAsk, BoundAs, end_of, ClausesAs}
 use Rattle.hir.specs.declared.valid.Check.{Check}
 use Rattle.hir.specs.declared.valid.Check.TheVariants.{Fine, Refused}
-use Rattle.hir.proofs.RunLaws.{behind-none, behind-append, before-behind, run-append, run_none, behind-passed, check-run}
-use Rattle.hir.proofs.PlaceLaws.{class_of, Fit, line-unfit, line-wrong, line-fit, class-is, class-word, class-none, kids-of, run-line, carry-bad, carry-ok}
+use Rattle.hir.proofs.RunLaws.{behind-none, behind-append, before-behind, run-append, run_none, check-run}
+use Rattle.hir.proofs.PlaceLaws.{class_of, Fit, line-unfit, line-wrong, line-fit, class-is, class-word, kids-of, carry-bad, carry-ok}
 
 -- ## Lines that hold no others
 

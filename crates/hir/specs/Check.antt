@@ -1,5 +1,5 @@
 -- What the validation says, by the numbers that the code has.
-use Rattle.std.specs.Prelude.{◌≡◌, List, [], ◌∷◌, ◌++◌, Bool, true, false, ℕ, suc, zero, ◌+◌, ◌-◌, ◌/◌, ◌≤◌, ◌<◌, eqb, length, get_or, drop}
+use Rattle.std.specs.Prelude.{◌≡◌, List, [], ◌∷◌, ◌++◌, Bool, true, false, ℕ, ◌+◌, ◌/◌, ◌≤◌, ◌<◌, eqb, length, get_or, drop}
 use Rattle.semantics.specs.Codes.{line_feed, badly_written, too_deep, expression_rank}
 use Rattle.semantics.specs.Bytes.{Bytes, split}
 use Rattle.semantics.specs.Sheet.{Head, rank, place, clauses, bindings, check, Sheet, heads, refused, sheet}

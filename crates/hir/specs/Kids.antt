@@ -1,8 +1,8 @@
 -- What hangs under a line, by the numbers of the table.
-use Rattle.std.specs.Prelude.{List, [], ◌∷◌, ◌++◌, Bool, true, false, ℕ, suc, zero, ◌+◌, ◌-◌, ◌*◌, ◌/◌, ◌%◌, get_or, replicate, eqb, ltb}
+use Rattle.std.specs.Prelude.{List, ◌++◌, true, false, ℕ, suc, zero, ◌+◌, ◌-◌, ◌*◌, ◌/◌, ◌%◌, get_or, replicate, eqb}
 use Rattle.semantics.specs.Codes.{expression_rank}
 use Rattle.semantics.specs.Sheet.{Place, first_place, binding_place, clause_place, end_place, projection_place, set_item_place, remove_item_place, label_place, parts_place, part_place, element_place, entry_place, item_place, expression_place, Want, at}
-use Rattle.line.specs.Arrays.{classes, groups, seconds}
+use Rattle.line.specs.Arrays.{groups, seconds}
 
 -- a place by its rank
 unfoldable pub place_at : ℕ → Place

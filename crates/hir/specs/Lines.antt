@@ -1,5 +1,5 @@
 -- An accepted sheet under a cursor: which heads stand where, and how they hang together.
-use Rattle.std.specs.Prelude.{◌≡◌, List, [], ◌∷◌, ◌++◌, true, ℕ, suc, ◌≤◌, ◌<◌}
+use Rattle.std.specs.Prelude.{◌≡◌, List, [], ◌∷◌, ◌++◌, true, ℕ, suc, ◌≤◌}
 use Rattle.semantics.specs.Bytes.{Bytes}
 use Rattle.semantics.specs.Sheet.{Head, variable_of, rank, place, ok, Want, fits, beyond, under}
 pub use Rattle.line.specs.Known.{LineAt}

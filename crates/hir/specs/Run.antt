@@ -2,7 +2,7 @@
 use Rattle.std.specs.Prelude.{List, [], ◌∷◌, ◌++◌, ℕ, suc}
 use Rattle.semantics.specs.Codes.{badly_written}
 use Rattle.semantics.specs.Bytes.{Bytes}
-use Rattle.semantics.specs.Sheet.{Head, Read, bad, ok, Want, under, read_line, Sheet, refused, heads, add, check}
+use Rattle.semantics.specs.Sheet.{Head, Read, bad, ok, Want, under, read_line, Sheet, refused, add, check}
 
 -- refused by a cause at a line; or the heads read, the number of the next line, and the lines that are left
 pub data Run : Type 0 where

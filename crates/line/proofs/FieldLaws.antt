@@ -1,20 +1,17 @@
 -- Laws of a line's fields. Assumes nothing.
-use mathlib.Core.Path.{◌≡◌, refl, sym, ◌∙◌, ap}
-use mathlib.Core.List.{List, [], ◌∷◌, ◌++◌}
-use mathlib.Core.Option.{Option, none, some}
-use mathlib.Core.Bool.{Bool, true, false, cond, ◌&&◌}
-use mathlib.Core.Logic.{◌⊎◌, ⊎_elim}
-use Prim.Native.Nat.{ℕ, suc, zero, ◌+◌, ◌-◌, ◌*◌, ◌/◌, ◌%◌, ◌≤◌, ◌<◌, min}
+use mathlib.Core.Path.{◌≡◌, refl, sym, ap}
+use mathlib.Core.List.{[], ◌∷◌}
+use mathlib.Core.Bool.{Bool, true, false}
+use Prim.Native.Nat.{ℕ}
 use native.Mathlib.Omega.{arith}
-use lib.Dec.{eqb, leb, ltb}
+use lib.Dec.{eqb}
 use lib.ListN.{length, get_or}
-use borrow.Author.Tests.{eqb-true, eqb-false, ne_eqb, eq-eqb}
-use Rattle.semantics.specs.Bytes.{Bytes, same}
+use borrow.Author.Tests.{ne_eqb}
+use Rattle.semantics.specs.Bytes.{Bytes}
 use Rattle.semantics.proofs.Order.{same_refl, same-ne}
-use Rattle.semantics.specs.Sheet.{Field, range, variable, optional, name, alias, bound, letter, signed, float, upto, count, is_dash}
-use Rattle.line.specs.declared.field.Val.{Val}
+use Rattle.semantics.specs.Sheet.{range, bound, letter, signed, upto, count, is_dash}
 use Rattle.line.specs.declared.field.Fields.{Fields}
-use Rattle.line.specs.Fields.{field_of, pick_n, pick_f, pushed, seen_var, seen_name, stored_in}
+use Rattle.line.specs.Fields.{field_of, pick_f, pushed, seen_var, seen_name, stored_in}
 
 -- ## A dash
 

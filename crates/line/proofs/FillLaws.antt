@@ -2,23 +2,19 @@
 use mathlib.Core.Path.{◌≡◌, refl, sym, ◌∙◌, ap}
 use mathlib.Core.List.{List, [], ◌∷◌, ◌++◌}
 use mathlib.Core.Option.{Option, none, some}
-use mathlib.Core.Bool.{Bool, true, false, cond, ◌&&◌}
-use Prim.Native.Nat.{ℕ, suc, zero, ◌+◌, ◌-◌, ◌*◌, ◌/◌, ◌%◌, ◌≤◌, ◌<◌, min}
-use native.Mathlib.Numerals.{add-one}
+use mathlib.Core.Bool.{Bool, true, false, ◌&&◌}
+use Prim.Native.Nat.{ℕ, suc, zero, ◌+◌, ◌-◌, ◌*◌, ◌/◌, ◌%◌, ◌≤◌, ◌<◌}
 use native.Mathlib.Omega.{arith}
-use lib.Dec.{eqb, leb, ltb}
-use lib.ListN.{length, get_or, take, drop, length-append}
+use lib.Dec.{eqb, leb}
+use lib.ListN.{length, get_or, length-append}
 use lib.Seq.{slice}
-use borrow.Author.Tests.{eqb-true, eqb-false, ne_eqb, eq-eqb, le-leb, lt-leb, leb-true}
+use borrow.Author.Tests.{eqb-true, eqb-false, ne_eqb, eq-eqb, leb-true}
 use Rattle.semantics.specs.Limits.{name_limit, variable_limit, bound_limit, signed_shift}
-use Rattle.semantics.specs.Bytes.{Bytes, split, decimal, unhex}
-use Rattle.semantics.specs.Sheet.{Word, Field, range, variable, optional, name, alias, bound, letter, signed, float, upto, count, is_dash, Head, variable_of, Value, wrong, number, variable_v, name_v, alias_v, within, named, lettered, signed_of, float_of, bound_of, value, Read, bad, ok, into, fill, bare}
+use Rattle.semantics.specs.Bytes.{Bytes, decimal, unhex}
+use Rattle.semantics.specs.Sheet.{Word, Field, range, variable, optional, name, alias, bound, letter, signed, float, is_dash, Head, Value, wrong, number, variable_v, name_v, alias_v, within, named, lettered, signed_of, float_of, bound_of, value, Read, bad, into, bare}
 use Rattle.line.specs.declared.field.Val.{Val}
 use Rattle.line.specs.declared.field.Fields.{Fields}
-use Rattle.line.specs.declared.line.Filled.{Filled}
 use Rattle.line.specs.Fields.{field_of, fields_of, clip, val_of, why_of, num_of, value_at, pick_n, pick_f, pushed, nothing_yet, seen_var, seen_name, stored_in, Agrees}
-use Rattle.line.specs.Line.{pieces, FilledAs}
-use Rattle.text.specs.Text.{Ends}
 
 -- ## What a field can say
 

@@ -1,7 +1,7 @@
 -- The fields of a line that is known to be fine. Assumes nothing.
 use mathlib.Core.Path.{◌≡◌, refl, sym, ◌∙◌, ap, subst}
 use mathlib.Core.List.{List, [], ◌∷◌}
-use mathlib.Core.Logic.{◌⊎◌, inl, inr, ⊎_elim}
+use mathlib.Core.Logic.{inr, ⊎_elim}
 use mathlib.Core.Option.{Option, none, some}
 use mathlib.Core.Bool.{Bool, true, false, cond, ◌&&◌}
 use Prim.Native.Nat.{ℕ, suc, zero, ◌+◌, ◌-◌, ◌*◌, ◌/◌, ◌%◌, ◌≤◌, ◌<◌}
@@ -13,20 +13,19 @@ use lib.Seq.{slice, length-slice, length-take-le}
 use borrow.Author.Tests.{leb-true, eq-eqb, ne_eqb}
 use Rattle.semantics.specs.Limits.{name_limit, variable_limit, signed_shift}
 use Rattle.semantics.specs.Bytes.{Bytes, split, is_digit, decimal, unhex}
-use Rattle.semantics.specs.Sheet.{Word, row as row_of, words, word_in, Head, Field, range, variable, optional, name, alias, bound, letter, signed, float, upto, count, Value, wrong, number, variable_v, name_v, alias_v, is_dash, value, within, named, signed_of, float_of, Read, bad, ok, into, fill, bare}
+use Rattle.semantics.specs.Sheet.{row as row_of, words, word_in, Head, Field, range, variable, optional, name, alias, bound, letter, signed, float, Value, wrong, number, variable_v, name_v, alias_v, is_dash, value, within, named, signed_of, float_of, Read, ok, into, fill, bare}
 use Rattle.semantics.proofs.All.{all_take, all_drop}
 use Rattle.text.specs.Text.{is_found, is_hex, is_letter, Ends}
 use Rattle.text.proofs.Laws.{get_or-slice, slice-take, drop-slice}
 use Rattle.text.proofs.Words.{hexes-on, hexes-off, digit-range, letter-range}
-use Rattle.line.specs.declared.field.Val.{Val}
 use Rattle.line.specs.declared.field.Fields.{Fields}
 use Rattle.line.specs.declared.in_place.Got.{Got}
 use Rattle.line.specs.Arrays.{shapes}
-use Rattle.line.specs.Rows.{code_from, number_in, number_of, word_no}
+use Rattle.line.specs.Rows.{number_of, word_no}
 use Rattle.line.specs.Fields.{field_of, fields_of, clip, val_of, why_of, num_of, value_at, nothing_yet}
 use Rattle.line.specs.Line.{pieces}
 use Rattle.line.specs.Quick.{Stood, GotAs}
-use Rattle.line.specs.Known.{LineAt, DigitsAt, DigitsAs, HighAt, FineAt, FineBehind, PieceFine, Spelled}
+use Rattle.line.specs.Known.{DigitsAt, DigitsAs, HighAt, FineBehind, PieceFine, Spelled}
 use Rattle.line.proofs.Words.{number_word}
 use Rattle.line.proofs.Rows.{shape-rule}
 use Rattle.line.proofs.FillLaws.{value-at}

@@ -1,15 +1,15 @@
 -- A line that is known to be fine: where its pieces stand and what they are. Assumes nothing.
 use mathlib.Core.Path.{◌≡◌, refl, sym, ◌∙◌, ap}
-use mathlib.Core.List.{List, [], ◌∷◌, ◌++◌, map}
+use mathlib.Core.List.{List, [], ◌∷◌, ◌++◌}
 use mathlib.Core.Option.{Option, none, some}
-use mathlib.Core.Bool.{Bool, true, false, cond, ◌&&◌}
-use Prim.Native.Nat.{ℕ, suc, zero, ◌+◌, ◌-◌, ◌*◌, ◌≤◌, ◌<◌}
+use mathlib.Core.Bool.{Bool, true, false, ◌&&◌}
+use Prim.Native.Nat.{ℕ, ◌+◌, ◌-◌, ◌*◌, ◌≤◌, ◌<◌}
 use native.Mathlib.Decide.{dec_lt}
 use native.Mathlib.Omega.{arith}
 use lib.Dec.{eqb, leb}
 use lib.ListN.{length, get_or, take, drop, length-drop}
 use lib.Seq.{slice, get_or-take, get_or-drop, length-take-le, length-slice}
-use borrow.Author.Tests.{eqb-true, eq-eqb, ne_eqb, leb-true}
+use borrow.Author.Tests.{eqb-true, eq-eqb, leb-true}
 use Rattle.semantics.specs.Limits.{variable_limit}
 use Rattle.semantics.specs.Bytes.{Bytes, text, same, split, is_digit, digits, decimal}
 use Rattle.semantics.specs.Sheet.{Word, row, rank, place, words, word_in, Head, num, variable_of, Field, variable, letter, Value, wrong, number, variable_v, value, within, lettered, Read, bad, ok, into, fill, bare}
@@ -17,11 +17,11 @@ use Rattle.semantics.proofs.Order.{same-eq}
 use Rattle.semantics.proofs.Split.{split-inj}
 use Rattle.semantics.proofs.Words.{every-where}
 use Rattle.text.specs.Text.{Ends}
-use Rattle.text.proofs.Laws.{slice-take, get_or-slice}
+use Rattle.text.proofs.Laws.{slice-take}
 use Rattle.text.proofs.Words.{ends, index-first, number-on, number-off, number-end, digit-range}
 use Rattle.line.specs.declared.in_place.Got.{Got}
 use Rattle.line.specs.declared.known.Bound.{Bound}
-use Rattle.line.specs.Line.{Plain, unknown, known, word_says, pieces_say, line_says, pieces}
+use Rattle.line.specs.Line.{known, word_says, pieces_say, line_says, pieces}
 use Rattle.line.specs.Known.{LineAt, FineAt, DigitsAt, DigitsAs, BindingAt, BoundAs}
 use Rattle.line.proofs.FillLaws.{Says, faulty, a-letter, lettered-says}
 use Rattle.line.proofs.QuickFields.{first_of}

@@ -1,25 +1,23 @@
 -- The loops of a line: the word's code, the commas, the fields. Assumes nothing.
 use mathlib.Core.Path.{◌≡◌, refl, sym, ◌∙◌, ap}
-use mathlib.Core.List.{List, [], ◌∷◌, ◌++◌}
-use mathlib.Core.Option.{Option, none, some}
-use mathlib.Core.Bool.{Bool, true, false, cond, ◌&&◌}
-use Prim.Native.Nat.{ℕ, suc, zero, ◌+◌, ◌-◌, ◌*◌, ◌/◌, ◌%◌, ◌≤◌, ◌<◌, min}
+use mathlib.Core.List.{List, [], ◌∷◌}
+use mathlib.Core.Bool.{Bool, true, false}
+use Prim.Native.Nat.{ℕ, suc, ◌+◌, ◌-◌, ◌*◌, ◌/◌, ◌%◌, ◌≤◌, ◌<◌}
 use native.Mathlib.Decide.{dec_lt}
 use native.Mathlib.Numerals.{add-one}
 use native.Mathlib.Omega.{arith}
-use lib.Dec.{eqb, leb, ltb}
-use lib.ListN.{length, get_or, take, drop, length-append, drop_of_length-le}
+use lib.Dec.{eqb}
+use lib.ListN.{length, get_or, take, drop, drop_of_length-le}
 use lib.Seq.{slice, drop-cons}
-use borrow.Author.Tests.{eqb-true, eqb-false, ne_eqb, eq-eqb, le-leb, lt-leb, leb-true, lt-ltb, le-ltb}
+use borrow.Author.Tests.{ne_eqb, eq-eqb, le-leb, lt-leb, lt-ltb, le-ltb}
 use Rattle.semantics.specs.Bytes.{Bytes, front, split}
-use Rattle.semantics.specs.Sheet.{Word, null_word, Head, Field, range, variable, optional, name, alias, bound, letter, signed, float, Value, wrong, number, variable_v, name_v, alias_v, Read, bad, ok, into, fill, bare, value}
+use Rattle.semantics.specs.Sheet.{Word, null_word, Head, Field, range, variable, optional, name, alias, bound, letter, signed, float, Value, Read, ok, into, fill, bare}
 use Rattle.line.specs.declared.field.Val.{Val}
 use Rattle.line.specs.declared.field.Fields.{Fields}
-use Rattle.line.specs.declared.line.Filled.{Filled}
 use Rattle.line.specs.Rows.{code_from}
 use Rattle.line.specs.Fields.{field_of, fields_of, clip, val_of, why_of, num_of, value_at, nothing_yet, stored_in, Agrees}
 use Rattle.line.specs.Line.{pieces, FilledAs}
-use Rattle.line.proofs.FillLaws.{Says, says, value-at, absorbed, into-on, into-stop, agrees_on, agrees_start}
+use Rattle.line.proofs.FillLaws.{says, value-at, absorbed, into-on, into-stop, agrees_on, agrees_start}
 use Rattle.text.specs.Text.{Ends}
 use Rattle.text.proofs.Laws.{part_slice}
 

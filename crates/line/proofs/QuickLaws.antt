@@ -9,7 +9,7 @@ use borrow.Author.Tests.{eqb-true, ne_eqb, lt-ltb}
 use native.Mathlib.Decide.{dec_lt}
 use native.Mathlib.Omega.{arith}
 use lib.ListN.{length, get_or, take, drop}
-use lib.Seq.{slice, get_or-take, get_or-drop, length-take-le, take-length}
+use lib.Seq.{slice, get_or-take, get_or-drop, length-take-le}
 use Rattle.semantics.specs.Bytes.{Bytes, split, text}
 use Rattle.semantics.specs.Sheet.{Word, null_word, fill, bare, row, words}
 use Rattle.text.specs.Text.{Ends}

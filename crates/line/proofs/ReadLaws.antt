@@ -2,22 +2,22 @@
 use mathlib.Core.Path.{◌≡◌, refl, sym, ◌∙◌, ap}
 use mathlib.Core.List.{List, [], ◌∷◌, ◌++◌, append_assoc, append-nil}
 use mathlib.Core.Option.{Option, none, some}
-use mathlib.Core.Bool.{Bool, true, false, cond, ◌&&◌}
-use Prim.Native.Nat.{ℕ, suc, zero, ◌+◌, ◌-◌, ◌*◌, ◌/◌, ◌%◌, ◌≤◌, ◌<◌, min}
+use mathlib.Core.Bool.{Bool, true, false, ◌&&◌}
+use Prim.Native.Nat.{ℕ, suc, zero, ◌+◌, ◌-◌, ◌/◌, ◌%◌, ◌≤◌, ◌<◌}
 use native.Mathlib.Omega.{arith}
-use lib.Dec.{eqb, leb, ltb}
+use lib.Dec.{eqb}
 use lib.ListN.{length, get_or, take, drop}
 use lib.Seq.{slice, take-take, length-take-le}
 use borrow.Author.Tests.{ne_eqb, eq-eqb}
 use Rattle.semantics.specs.Bytes.{Bytes, split, unhex}
-use Rattle.semantics.proofs.All.{All, empty, also, all_take, all_drop}
-use Rattle.semantics.specs.Sheet.{Word, Head, num, variable_of, Field, range, variable, optional, name, alias, bound, letter, signed, float, Value, wrong, number, variable_v, name_v, alias_v, value, Read, bad, ok, into, fill, bare, row, rank, words, word_in, Want, fits, beyond, and_then, read_fields, read_as, read_pieces, read_line}
+use Rattle.semantics.proofs.All.{empty, also, all_take, all_drop}
+use Rattle.semantics.specs.Sheet.{Word, Head, Field, range, variable, optional, name, alias, bound, letter, signed, float, Value, wrong, number, variable_v, name_v, alias_v, value, Read, bad, ok, into, fill, bare, row, rank, words, word_in, Want, fits, beyond, and_then, read_fields, read_as, read_pieces, read_line}
 use Rattle.line.specs.declared.field.Fields.{Fields}
 use Rattle.line.specs.declared.line.Filled.{Filled}
 use Rattle.line.specs.declared.line.Head.{Head as Seen}
 use Rattle.line.specs.Arrays.{shapes, slots}
 use Rattle.line.specs.Rows.{word_no, code_from, number_in, number_of}
-use Rattle.line.specs.Fields.{fields_of, clip, nothing_yet, Agrees}
+use Rattle.line.specs.Fields.{fields_of, clip, Agrees}
 use Rattle.line.specs.Line.{pieces, FilledAs, Plain, unknown, known, word_says, pieces_say, line_says, placed, most, Ranged, flag_of, count_of, HeadIs, SaysAs, ReadAs, seen_as}
 use Rattle.line.specs.Opening.{WordIs}
 use Rattle.line.proofs.Words.{Small, number_word}

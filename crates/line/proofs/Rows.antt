@@ -1,8 +1,7 @@
 -- Each array says what `row` says: computed for all words at once. Assumes nothing.
 use mathlib.Core.Path.{◌≡◌, refl}
-use mathlib.Core.List.{List, [], ◌∷◌}
-use mathlib.Core.Bool.{true}
-use Prim.Native.Nat.{ℕ, ◌/◌, ◌%◌, ◌≤◌, ◌<◌}
+use mathlib.Core.List.{◌∷◌}
+use Prim.Native.Nat.{◌/◌, ◌%◌, ◌≤◌, ◌<◌}
 use lib.Dec.{leb, ltb}
 use lib.ListN.{length, get_or}
 use borrow.Author.Tests.{leb-true, ltb-true}

@@ -1,20 +1,20 @@
 -- Laws of single fields: what each says by the tests that the code makes. Assumes nothing.
 use mathlib.Core.Path.{◌≡◌, refl, sym, ◌∙◌, ap}
-use mathlib.Core.List.{List, [], ◌∷◌, ◌++◌}
+use mathlib.Core.List.{[], ◌∷◌}
 use mathlib.Core.Option.{Option, none, some}
 use mathlib.Core.Bool.{Bool, true, false, cond, ◌&&◌}
-use Prim.Native.Nat.{ℕ, suc, zero, ◌+◌, ◌-◌, ◌*◌, ◌/◌, ◌%◌, ◌^◌, ◌≤◌, ◌<◌, min}
+use Prim.Native.Nat.{ℕ, suc, ◌+◌, ◌-◌, ◌*◌, ◌%◌, ◌^◌, ◌≤◌, ◌<◌}
 use native.Mathlib.Omega.{arith}
 use lib.Dec.{eqb, leb, ltb}
 use lib.ListN.{length, get_or, take, drop, length-map}
 use lib.Seq.{take_all}
 use borrow.Author.Tests.{eqb-true, eqb-false, ne_eqb, eq-eqb, le-leb, lt-leb, ltb-true, ltb-false}
-use Rattle.semantics.specs.Limits.{name_limit, variable_limit, bound_limit, signed_shift}
+use Rattle.semantics.specs.Limits.{name_limit, variable_limit, bound_limit}
 use Rattle.semantics.specs.Bytes.{Bytes, same, decimal, unhex}
 use Rattle.semantics.proofs.Reader.{unhex-sound}
 use Rattle.semantics.proofs.Named.{Maybe, Digits}
 use Rattle.semantics.proofs.Split.{name_f}
-use Rattle.semantics.specs.Sheet.{Field, range, variable, optional, name, alias, bound, letter, signed, float, upto, count, is_dash, Value, wrong, number, variable_v, name_v, alias_v, within, named, lettered, signed_of, float_of, bound_of}
+use Rattle.semantics.specs.Sheet.{optional, alias, is_dash, Value, wrong, number, variable_v, name_v, alias_v, within, named, lettered, signed_of, float_of, bound_of}
 use Rattle.text.specs.declared.Dec.{Dec as Num}
 use Rattle.text.specs.declared.Dec.TheVariants.{Is, Over, Bad}
 use Rattle.text.specs.Text.{dec_of, capped, is_found}

@@ -1,21 +1,20 @@
 -- Words by their packed letters. Assumes nothing.
 use mathlib.Core.Path.{◌≡◌, refl, sym, ◌∙◌, ap}
-use mathlib.Core.List.{List, [], ◌∷◌, ◌++◌, map}
-use mathlib.Core.Option.{Option, none, some}
+use mathlib.Core.List.{List, [], ◌∷◌, ◌++◌}
 use mathlib.Core.Bool.{Bool, true, false, ◌&&◌}
-use Prim.Native.Nat.{ℕ, suc, zero, ◌+◌, ◌-◌, ◌*◌, ◌≤◌, ◌<◌}
+use Prim.Native.Nat.{ℕ, ◌+◌, ◌-◌, ◌*◌, ◌≤◌, ◌<◌}
 use native.Mathlib.Decide.{dec_le}
 use native.Mathlib.Omega.{arith}
 use types.Run.{OneOf}
 use lib.Dec.{eqb, ltb}
-use lib.ListN.{length, take, drop, take-append-drop, length-drop, length-take}
+use lib.ListN.{length, take, drop, take-append-drop, length-drop}
 use lib.Seq.{length-take-le}
-use borrow.Author.Tests.{eqb-true, ne_eqb, eq-eqb, ltb-true}
+use borrow.Author.Tests.{ne_eqb, eq-eqb, ltb-true}
 use Rattle.semantics.specs.Bytes.{Bytes, text, same}
 use Rattle.semantics.specs.Sheet.{Word, row, words, word_in}
-use Rattle.semantics.proofs.All.{All, empty, also, all_take, all_drop}
+use Rattle.semantics.proofs.All.{All, empty, also, all_drop}
 use Rattle.semantics.proofs.Order.{same_refl, same-ne}
-use Rattle.line.specs.Rows.{word_no, code_from, number_in, number_of}
+use Rattle.line.specs.Rows.{code_from, number_in, number_of}
 
 -- no arm of a match on these numbers was met, the last first
 abbrev pub Missed : List Word → ℕ → Type 0

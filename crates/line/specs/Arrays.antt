@@ -1,5 +1,5 @@
 -- What src/table.rt says of each word, by its number: computed from the rows of `semantics`. Word 0 is no word.
-use Rattle.std.specs.Prelude.{List, [], ◌∷◌, map, ℕ, suc, zero, ◌+◌, ◌*◌, true, false, eqb, length}
+use Rattle.std.specs.Prelude.{List, [], ◌∷◌, map, ℕ, ◌+◌, ◌*◌, true, false, eqb, length}
 use Rattle.semantics.specs.Sheet.{Word, Field, range, variable, optional, name, alias, bound, letter, signed, float, Place, expression_place, Role, plain, condition, answer, inner, Shape, nothing, one, two, bounds, arms, times, times_then, around, one_then, one_times, row, rank}
 use Rattle.line.specs.Rows.{numbered}
 

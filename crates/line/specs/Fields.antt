@@ -1,5 +1,5 @@
 -- The fields of a line as the code keeps them: in numbers of 64 bits.
-use Rattle.std.specs.Prelude.{◌≡◌, List, [], ◌∷◌, ◌++◌, Bool, true, false, cond, ℕ, suc, zero, ◌+◌, ◌-◌, ◌*◌, ◌/◌, ◌%◌, ◌≤◌, min, eqb, length, get_or}
+use Rattle.std.specs.Prelude.{◌≡◌, List, [], ◌∷◌, Bool, true, false, ℕ, suc, zero, ◌+◌, ◌-◌, ◌/◌, ◌%◌, ◌≤◌, min, eqb, length, get_or}
 use Rattle.std.proofs.Math.Option.{Option, none, some}
 use Rattle.std.proofs.Math.Seq.{slice}
 use Rattle.semantics.specs.Codes.{badly_written}
@@ -7,7 +7,6 @@ use Rattle.semantics.specs.Limits.{variable_limit, bound_limit, signed_shift}
 use Rattle.semantics.specs.Bytes.{Bytes, decimal, unhex}
 use Rattle.semantics.specs.Sheet.{Field, range, variable, optional, name, alias, bound, letter, signed, float, upto, count, Value, wrong, number, variable_v, name_v, alias_v, is_dash, within, named, lettered, signed_of, float_of, bound_of, Head, variable_of}
 use Rattle.line.specs.declared.field.Val.{Val}
-use Rattle.line.specs.declared.field.VarId.{VarId}
 use Rattle.line.specs.declared.field.Fields.{Fields}
 
 -- a field by the number of its shape

@@ -1,5 +1,5 @@
 -- A line, whatever is wanted where it stands; and the line as the code reads it.
-use Rattle.std.specs.Prelude.{◌≡◌, List, [], ◌∷◌, Bool, true, false, ℕ, suc, zero, ◌≤◌, ◌<◌, ◌/◌, ◌%◌, eqb, leb, length, get_or, drop}
+use Rattle.std.specs.Prelude.{◌≡◌, List, [], ◌∷◌, true, false, ℕ, suc, zero, ◌≤◌, ◌<◌, ◌/◌, ◌%◌, eqb, leb, length, get_or, drop}
 use Rattle.std.proofs.Math.Option.{Option, none, some}
 use Rattle.std.proofs.Math.Seq.{slice}
 use Rattle.semantics.specs.Limits.{bound_limit}

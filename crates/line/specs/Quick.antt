@@ -1,6 +1,6 @@
 -- A line read at once, in one pass, where nothing is wrong with it. Where something is, nothing is promised.
-use Rattle.std.specs.Prelude.{◌≡◌, List, [], ◌∷◌, Bool, true, ℕ, ◌+◌, ◌*◌, ◌≤◌, ◌<◌, length, get_or, drop}
-use Rattle.std.proofs.Math.Option.{Option, none, some}
+use Rattle.std.specs.Prelude.{◌≡◌, List, Bool, true, ℕ, ◌+◌, ◌*◌, ◌≤◌, ◌<◌, length, get_or, drop}
+use Rattle.std.proofs.Math.Option.{some}
 use Rattle.std.proofs.Math.Seq.{slice}
 use Rattle.semantics.specs.Codes.{line_feed, comma, dash, digit_zero}
 use Rattle.semantics.specs.Bytes.{Bytes, split, digits, decimal, unhex}
@@ -10,7 +10,6 @@ use Rattle.line.specs.Arrays.{field_rows, shapes, slots, groups, seconds}
 use Rattle.line.specs.Rows.{code_from, number_in}
 use Rattle.line.specs.Fields.{field_of, val_of, value_at}
 use Rattle.line.specs.Line.{ReadAs, seen_as}
-use Rattle.line.specs.declared.field.Val.{Val}
 use Rattle.line.specs.declared.field.Fields.{Fields}
 use Rattle.line.specs.declared.in_place.Got.{Got}
 use Rattle.line.specs.declared.quick.Lead.{Lead}

@@ -1,8 +1,8 @@
 -- The words as numbers, and what the arrays say of a word.
-use Rattle.std.specs.Prelude.{List, [], ◌∷◌, Bool, true, false, ℕ, suc, zero, ◌+◌, ◌*◌, ◌/◌, ◌%◌, eqb, ltb}
+use Rattle.std.specs.Prelude.{List, [], ◌∷◌, true, false, ℕ, ◌+◌, ◌*◌, eqb, ltb}
 use Rattle.std.proofs.Math.Option.{Option, none, some}
 use Rattle.semantics.specs.Bytes.{Bytes, text}
-use Rattle.semantics.specs.Sheet.{Word, cyrs_word, b_word, end_word, mat_word, cre_word, mer_word, whe_word, wit_word, ret_word, unw_word, set_word, rem_word, del_word, cal_word, pro_word, sp_word, sl_word, sm_word, rp_word, rl_word, lab_word, parts_word, part_word, nod_word, rel_word, null_word, bool_word, int_word, flt_word, str_word, var_word, par_word, unr_word, exi_word, prop_word, idx_word, sli_word, lis_word, map_word, key_word, call_word, bin_word, una_word, case_word, isn_word, in_word, pat_word, lcp_word, pcp_word, lpr_word, mpr_word, cop_word, com_word, sho_word, ali_word, row, words}
+use Rattle.semantics.specs.Sheet.{Word, cyrs_word, b_word, end_word, mat_word, cre_word, mer_word, whe_word, wit_word, ret_word, unw_word, set_word, rem_word, del_word, cal_word, pro_word, sp_word, sl_word, sm_word, rp_word, rl_word, lab_word, parts_word, part_word, nod_word, rel_word, null_word, bool_word, int_word, flt_word, str_word, var_word, par_word, unr_word, exi_word, prop_word, idx_word, sli_word, lis_word, map_word, key_word, call_word, bin_word, una_word, case_word, isn_word, in_word, pat_word, lcp_word, pcp_word, lpr_word, mpr_word, cop_word, com_word, sho_word, ali_word, row}
 
 -- a word's number: 1 to 55
 unfoldable pub word_no : Word → ℕ

@@ -2,16 +2,16 @@
 use mathlib.Core.Path.{◌≡◌, refl, sym, ◌∙◌, ap, subst}
 use mathlib.Core.List.{List, [], ◌∷◌, ◌++◌, append_assoc, append-nil, map}
 use mathlib.Core.Bool.{Bool, true, false, cond, ◌&&◌}
-use Prim.Native.Nat.{ℕ, suc, zero, ◌+◌, ◌/◌, ◌%◌, ◌≤◌, ◌<◌}
+use Prim.Native.Nat.{ℕ, suc, zero, ◌+◌, ◌≤◌, ◌<◌}
 use native.Mathlib.Omega.{arith}
 use lib.Dec.{eqb, ltb, leb}
-use lib.ListN.{length, get_or, take, drop, replicate, length-append, length-map}
+use lib.ListN.{length, take, drop, length-append, length-map}
 use lib.Seq.{drop-drop}
 use borrow.Author.Tests.{eqb-true, eqb-false, ltb-true, leb-true, ne_eqb, eq-eqb}
 use Rattle.semantics.specs.Bytes.{Bytes}
-use Rattle.semantics.specs.Sheet.{kids, Word, Place, first_place, binding_place, clause_place, end_place, projection_place, set_item_place, remove_item_place, label_place, parts_place, part_place, element_place, entry_place, item_place, expression_place, Role, plain, condition, answer, inner, Typing, Rule, silent, entering, typed, present, arm_roles, deeper, Head, rank, place, rule, row, Want, clauses, at, wanted, fits, beyond, ok, under, after, roles, arity}
+use Rattle.semantics.specs.Sheet.{kids, Word, Place, first_place, binding_place, clause_place, end_place, projection_place, set_item_place, remove_item_place, label_place, parts_place, part_place, element_place, entry_place, item_place, expression_place, Role, plain, condition, answer, inner, Typing, Rule, silent, entering, typed, deeper, Head, rank, place, rule, row, Want, clauses, at, wanted, fits, beyond, ok, under, after, roles, arity}
 use Rattle.semantics.specs.Ty.{Ty}
-use Rattle.semantics.specs.Walk.{Env, Res, Top, no_part, tops_of, tops, tops_by, through, last_tests, child, on, step, walk, env_of, results, all_tops, all_tests, typing}
+use Rattle.semantics.specs.Walk.{Env, Res, Top, no_part, tops_of, tops, tops_by, through, last_tests, child, step, walk, env_of, results, all_tops, all_tests, typing}
 use Rattle.semantics.proofs.All.{All, empty, also}
 use Rattle.semantics.proofs.Words.{holds, named, each, kids-each}
 use Rattle.hir.specs.Lines.{Met, all-met, meets, Ascends, no-binding, ascends}

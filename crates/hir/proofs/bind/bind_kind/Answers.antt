@@ -1,7 +1,6 @@
-use Prim.Native.Nat.{◌-◌}
 use native.Mathlib.Omega.{arith}
 use borrow.Author.Rules.{rules}
-use Rattle.hir.proofs.BindLaws.{FindInv, find-start, found-binding, found-letter, found-hit, found-lower, found-higher, found-on, found_none}
+use Rattle.hir.proofs.BindLaws.{find-start, found-binding, found-letter, found-hit, found-lower, found-higher, found-on, found_none}
 use Rattle.hir.proofs.bind.bind_kind.Goals as goal
 
 pub loop-lo-init : goal.loop-lo-init

@@ -1,7 +1,3 @@
-use borrow.Author.Rules.{rules}
-use lib.ListN.{length, get_or}
-use mathlib.Core.Path.{◌≡◌}
-use Prim.Native.Nat.{ℕ, ◌-◌, ◌≤◌, ◌<◌}
 use native.Mathlib.Omega.{arith}
 use Rattle.hir.proofs.BindLaws.{start-on}
 use Rattle.hir.proofs.bind.line_start.Goals as goal

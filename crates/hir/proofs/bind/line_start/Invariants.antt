@@ -1,9 +1,6 @@
-use borrow.Author.Rules.{rules}
 use lib.ListN.{length, get_or}
 use mathlib.Core.Path.{◌≡◌}
-use Prim.Native.Nat.{ℕ, ◌-◌, ◌≤◌, ◌<◌}
-use native.Mathlib.Omega.{arith}
-use Rattle.hir.proofs.BindLaws.{start-on}
+use Prim.Native.Nat.{ℕ, ◌≤◌, ◌<◌}
 use Rattle.hir.proofs.bind.line_start.Given as goal
 
 abbrev pub invariant-loop-p : goal.invariant-loop-p

@@ -1,17 +1,10 @@
 use lib.ListN.{drop}
 use Rattle.line.proofs.KnownLaws.{not-fine}
 use Rattle.semantics.specs.Bytes.{split}
-use borrow.Author.Rules.{rules}
-use mathlib.Core.Path.{◌≡◌, refl, sym, ◌∙◌, ap}
-use Prim.Native.Nat.{◌+◌, ◌-◌, ◌*◌}
 use native.Mathlib.Omega.{arith}
-use lib.ListN.{get_or}
 use Rattle.line.proofs.Rows.{word-range}
-use Rattle.line.specs.Arrays.{classes}
-use Rattle.hir.specs.Kids.{level}
 use Rattle.hir.proofs.PlaceLaws.{word-known, flag_small, count_small}
-use Rattle.hir.proofs.CheckLaws.{KidsInv, kids-start, step_end, step-stop, step_room, step-deep, step_falls, step-ask, step-refused, step-leaf, step-on}
-use Prim.Native.Nat.{ℕ, ◌<◌}
+use Rattle.hir.proofs.CheckLaws.{kids-start, step_end, step-stop, step_room, step-deep, step_falls, step-ask, step-refused, step-leaf, step-on}
 use Rattle.hir.proofs.valid.+check_kids.Goals.{then-is_leaf, else-is_leaf+in-Fine}
 use Rattle.hir.proofs.valid.+check_kids.Goals as goal
 

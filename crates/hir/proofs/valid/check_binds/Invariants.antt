@@ -1,10 +1,6 @@
-use borrow.Author.Rules.{rules}
 use lib.ListN.{length}
-use mathlib.Core.Path.{◌≡◌, refl, sym, ◌∙◌, ap}
-use Prim.Native.Nat.{◌+◌, ◌-◌, ◌*◌}
-use native.Mathlib.Omega.{arith}
-use Rattle.line.proofs.KnownLaws.{not-fine}
-use Rattle.hir.proofs.TopLaws.{BindsInv, binds-start, bound-room, bound-done, bound-wrong, bound-low, bound-less, bound-on}
+use Prim.Native.Nat.{◌-◌}
+use Rattle.hir.proofs.TopLaws.{BindsInv}
 use Rattle.hir.proofs.valid.check_binds.Given as goal
 
 abbrev pub invariant-loop-h : goal.invariant-loop-h

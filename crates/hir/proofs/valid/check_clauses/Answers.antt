@@ -1,12 +1,9 @@
-use borrow.Author.Rules.{rules}
-use lib.ListN.{length, drop}
+use lib.ListN.{drop}
 use Rattle.line.proofs.KnownLaws.{not-fine}
 use Rattle.semantics.specs.Bytes.{split}
-use mathlib.Core.Path.{◌≡◌, refl, sym, ◌∙◌, ap}
-use Prim.Native.Nat.{◌+◌, ◌-◌, ◌*◌}
-use native.Mathlib.Omega.{arith}
+use mathlib.Core.Path.{refl, sym, ◌∙◌}
 use Rattle.hir.proofs.PlaceLaws.{word-known}
-use Rattle.hir.proofs.TopLaws.{ClausesInv, clauses-start, clause-room, clause-end, clause-stop, clause-ask, clause-refused, clause-less, clause-on}
+use Rattle.hir.proofs.TopLaws.{clauses-start, clause-room, clause-end, clause-stop, clause-ask, clause-refused, clause-less, clause-on}
 use Rattle.hir.proofs.valid.check_clauses.Goals as goal
 
 pub loop-l-init : goal.loop-l-init

@@ -1,12 +1,6 @@
-use borrow.Author.Rules.{rules}
-use lib.ListN.{length, drop}
-use Rattle.line.proofs.KnownLaws.{not-fine}
-use Rattle.semantics.specs.Bytes.{split}
-use mathlib.Core.Path.{◌≡◌, refl, sym, ◌∙◌, ap}
-use Prim.Native.Nat.{◌+◌, ◌-◌, ◌*◌}
-use native.Mathlib.Omega.{arith}
-use Rattle.hir.proofs.PlaceLaws.{word-known}
-use Rattle.hir.proofs.TopLaws.{ClausesInv, clauses-start, clause-room, clause-end, clause-stop, clause-ask, clause-refused, clause-less, clause-on}
+use lib.ListN.{length}
+use Prim.Native.Nat.{◌-◌}
+use Rattle.hir.proofs.TopLaws.{ClausesInv}
 use Rattle.hir.proofs.valid.check_clauses.Given as goal
 
 abbrev pub invariant-loop-l : goal.invariant-loop-l

@@ -1,9 +1,7 @@
 use Prim.Native.Nat.{ℕ}
-use Rattle.line.specs.declared.line.HirId.{HirId}
 use Rattle.hir.specs.declared.valid.Check.TheVariants.{Refused}
-use mathlib.Core.Path.{◌≡◌, refl, sym, ◌∙◌, ap}
+use mathlib.Core.Path.{ap}
 use borrow.Author.Tests.{eq-eqb, ne_eqb}
-use borrow.Author.Rules.{rules}
 use Rattle.hir.proofs.valid.check_end.Goals as goal
 
 pub returns-then-h-ne-ACCEPTED : goal.returns-then-h-ne-ACCEPTED

@@ -1,7 +1,4 @@
-use mathlib.Core.Path.{◌≡◌, refl, sym, ◌∙◌, ap}
-use native.Mathlib.Omega.{arith}
 use Rattle.hir.proofs.SheetLaws.{rest-binds, rest-ask, rest-clauses, rest-fine}
-use borrow.Author.Rules.{rules}
 use Rattle.hir.proofs.valid.check_rest.Goals as goal
 
 pub check_binds-requires : goal.check_binds-requires

@@ -1,11 +1,9 @@
 use lib.ListN.{drop}
 use Rattle.line.proofs.KnownLaws.{not-fine}
 use Rattle.semantics.specs.Bytes.{split}
-use mathlib.Core.Path.{◌≡◌, refl, sym, ◌∙◌, ap}
 use native.Mathlib.Omega.{arith}
 use Rattle.hir.proofs.PlaceLaws.{word-known}
 use Rattle.hir.proofs.SheetLaws.{first-stop, first-ask, first_on}
-use borrow.Author.Rules.{rules}
 use Rattle.hir.proofs.valid.check_sheet.Goals as goal
 
 pub read_line-h-requires : goal.read_line-h-requires

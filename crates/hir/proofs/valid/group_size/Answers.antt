@@ -1,9 +1,8 @@
 use Rattle.hir.specs.Kids.{group_size}
 use mathlib.Core.Path.{refl}
-use Prim.Native.Nat.{◌+◌, ◌*◌, ◌/◌, ◌%◌}
+use Prim.Native.Nat.{◌+◌, ◌/◌, ◌%◌}
 use native.Mathlib.Omega.{arith}
 use Rattle.hir.proofs.CheckLaws.{product_small, bits_small}
-use borrow.Author.Rules.{rules}
 use Rattle.hir.proofs.valid.group_size.Goals as goal
 
 pub overflow_mul-result : goal.overflow_mul-result

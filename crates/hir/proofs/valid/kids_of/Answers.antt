@@ -1,8 +1,7 @@
 use Rattle.hir.specs.Kids.{group_size}
 use Prim.Native.Nat.{ℕ, ◌+◌, ◌/◌}
-use mathlib.Core.Path.{refl, ◌∙◌, ap}
+use mathlib.Core.Path.{◌∙◌, ap}
 use native.Mathlib.Omega.{arith}
-use borrow.Author.Rules.{rules}
 use Rattle.hir.proofs.valid.kids_of.Goals as goal
 
 pub returns : goal.returns

@@ -1,6 +1,5 @@
 use mathlib.Core.Path.{sym, ◌∙◌}
 use borrow.Author.Tests.{eq-eqb, ne_eqb}
-use borrow.Author.Rules.{rules}
 use Rattle.hir.proofs.valid.verdict.Goals as goal
 
 pub returns-then-class_of-class : goal.returns-then-class_of-class

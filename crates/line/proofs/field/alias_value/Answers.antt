@@ -1,5 +1,4 @@
 use Rattle.line.proofs.ValueLaws.{alias-dash, alias-some}
-use borrow.Author.Rules.{rules}
 use Rattle.line.proofs.field.alias_value.Goals as goal
 
 pub returns-then-is_dash : goal.returns-then-is_dash

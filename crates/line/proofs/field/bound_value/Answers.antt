@@ -2,7 +2,6 @@ use Rattle.line.specs.Fields.{val_of}
 use mathlib.Core.Path.{◌∙◌, ap}
 use native.Mathlib.Omega.{arith}
 use Rattle.line.proofs.ValueLaws.{bound-dash, bound-none, bound_some, read-bad, read-over, read-bound}
-use borrow.Author.Rules.{rules}
 use Rattle.line.proofs.field.bound_value.Goals as goal
 
 pub returns-then-is_dash : goal.returns-then-is_dash

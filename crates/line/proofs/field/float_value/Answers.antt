@@ -1,6 +1,5 @@
 use native.Mathlib.Omega.{arith}
 use Rattle.line.proofs.ValueLaws.{float-length, float-fine, float-bad}
-use borrow.Author.Rules.{rules}
 use Rattle.line.proofs.field.float_value.Goals as goal
 
 pub returns-then-text-ne-FLOAT_DIGITS : goal.returns-then-text-ne-FLOAT_DIGITS

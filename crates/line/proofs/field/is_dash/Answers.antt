@@ -1,6 +1,5 @@
 use native.Mathlib.Omega.{arith}
 use Rattle.line.proofs.FieldLaws.{dash-not, dash-is, dash-other}
-use borrow.Author.Rules.{rules}
 use Rattle.line.proofs.field.is_dash.Goals as goal
 
 pub returns-then-text-ne1 : goal.returns-then-text-ne1

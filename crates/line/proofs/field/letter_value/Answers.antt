@@ -2,7 +2,6 @@ use Rattle.semantics.specs.Sheet.{lettered}
 use mathlib.Core.Path.{refl}
 use native.Mathlib.Omega.{arith}
 use Rattle.line.proofs.ValueLaws.{letter-length, letter-is, letter-none}
-use borrow.Author.Rules.{rules}
 use Rattle.line.proofs.field.letter_value.Goals as goal
 
 pub returns-then-text-ne1 : goal.returns-then-text-ne1

@@ -1,7 +1,5 @@
-use borrow.Author.Tests.{not-true, not-false}
 use native.Mathlib.Omega.{arith}
 use Rattle.line.proofs.ValueLaws.{name-bad, name-odd, name-long, name-fine}
-use borrow.Author.Rules.{rules}
 use Rattle.line.proofs.field.name_value.Goals as goal
 
 pub returns-then-not-all_hex : goal.returns-then-not-all_hex

@@ -1,6 +1,5 @@
 use native.Mathlib.Omega.{arith}
 use Rattle.line.proofs.ValueLaws.{read-bad, read-over, read_out, read-negative, read-minus-zero}
-use borrow.Author.Rules.{rules}
 use Rattle.line.proofs.field.negative_value.Goals as goal
 
 pub returns-then-n-gt-SIGNED_SHIFT : goal.returns-then-n-gt-SIGNED_SHIFT

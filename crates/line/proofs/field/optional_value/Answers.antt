@@ -1,6 +1,5 @@
 use mathlib.Core.Path.{◌∙◌}
 use Rattle.line.proofs.ValueLaws.{optional-dash, optional-some}
-use borrow.Author.Rules.{rules}
 use Rattle.line.proofs.field.optional_value.Goals as goal
 
 pub returns-then-is_dash : goal.returns-then-is_dash

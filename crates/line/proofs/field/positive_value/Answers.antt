@@ -1,6 +1,5 @@
 use native.Mathlib.Omega.{arith}
 use Rattle.line.proofs.ValueLaws.{read-bad, read-over, read_out, read-positive}
-use borrow.Author.Rules.{rules}
 use Rattle.line.proofs.field.positive_value.Goals as goal
 
 pub returns-then-n-gt-MOST_SIGNED : goal.returns-then-n-gt-MOST_SIGNED

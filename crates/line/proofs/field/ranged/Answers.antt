@@ -1,8 +1,6 @@
 use Rattle.line.proofs.ValueLaws.{read_number}
-use mathlib.Core.Path.{◌∙◌, ap}
 use native.Mathlib.Omega.{arith}
-use Rattle.line.proofs.ValueLaws.{read-bad, read-over, read_out, read-in, clip-small}
-use borrow.Author.Rules.{rules}
+use Rattle.line.proofs.ValueLaws.{read-bad, read-over, read_out}
 use Rattle.line.proofs.field.ranged.Goals as goal
 
 pub returns-then-n-least : goal.returns-then-n-least

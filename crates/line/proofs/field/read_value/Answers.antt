@@ -1,7 +1,6 @@
 use native.Mathlib.Omega.{arith}
 use mathlib.Core.Path.{◌∙◌}
 use Rattle.line.proofs.ValueLaws.{as-variable, as-optional, as-name, as-aliased, as-float, as-bound, as-letter, as-signed, as-two, as-three, as-operator, as-count, as-edition, as-bit}
-use borrow.Author.Rules.{rules}
 use Rattle.line.proofs.field.read_value.Goals as goal
 
 pub returns-in-7 : goal.returns-in-7

@@ -1,7 +1,6 @@
 use mathlib.Core.Path.{◌∙◌}
 use native.Mathlib.Omega.{arith}
 use Rattle.line.proofs.ValueLaws.{signed-empty, signed-minus, signed-plain}
-use borrow.Author.Rules.{rules}
 use Rattle.line.proofs.field.signed_value.Goals as goal
 
 pub returns-then-text-eq0 : goal.returns-then-text-eq0

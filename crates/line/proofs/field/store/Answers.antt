@@ -1,8 +1,7 @@
 use native.Mathlib.Omega.{arith}
 use borrow.Author.Tests.{eq-eqb, ne_eqb}
-use mathlib.Core.Path.{◌∙◌, ap}
+use mathlib.Core.Path.{◌∙◌}
 use Rattle.line.proofs.FieldLaws.{store-var, store-optional, store-name, store-float, store-alias, store-number}
-use borrow.Author.Rules.{rules}
 use Rattle.line.proofs.field.store.Goals as goal
 
 pub with_var-requires : goal.with_var-requires

@@ -1,10 +1,5 @@
-use mathlib.Core.Path.{◌≡◌, refl, sym, ◌∙◌, ap}
-use mathlib.Core.Logic.{⊎_elim}
 use native.Mathlib.Omega.{arith}
-use Prim.Native.Nat.{◌+◌, ◌-◌, ◌*◌, ◌/◌, ◌%◌, ◌≤◌, ◌<◌}
-use lib.ListN.{length, get_or, drop}
 use Rattle.line.proofs.QuickFields.{dash-got}
-use borrow.Author.Rules.{rules}
 use Rattle.line.proofs.in_place.dash_or.Goals as goal
 
 pub returns-then-end-sheet : goal.returns-then-end-sheet

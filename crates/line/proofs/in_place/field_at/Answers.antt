@@ -1,10 +1,4 @@
-use mathlib.Core.Path.{◌≡◌, refl, sym, ◌∙◌, ap}
-use mathlib.Core.Logic.{⊎_elim}
-use native.Mathlib.Omega.{arith}
-use Prim.Native.Nat.{◌+◌, ◌-◌, ◌*◌, ◌/◌, ◌%◌, ◌≤◌, ◌<◌}
-use lib.ListN.{length, get_or, drop}
 use Rattle.line.proofs.QuickFields.{dashed-optional, dashed-alias, dashed-bound}
-use borrow.Author.Rules.{rules}
 use Rattle.line.proofs.in_place.field_at.Goals as goal
 
 pub dash_or-requires : goal.dash_or-requires

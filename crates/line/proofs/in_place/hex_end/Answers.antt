@@ -1,10 +1,5 @@
-use borrow.Author.Rules.{rules}
-use mathlib.Core.Path.{◌≡◌, refl, sym, ◌∙◌, ap}
 use mathlib.Core.Logic.{inl, inr}
 use native.Mathlib.Omega.{arith}
-use Prim.Native.Nat.{◌+◌, ◌-◌, ◌*◌, ◌/◌, ◌%◌, ◌≤◌, ◌<◌}
-use lib.ListN.{length, get_or, drop}
-use Rattle.line.specs.Quick.{HexTo}
 use Rattle.line.proofs.QuickFields.{hex-start, hex-more}
 use Rattle.line.proofs.in_place.hex_end.Goals.{then-b-lt-BEHIND_NINE+else-b-lt48, else-b-lt-BEHIND_NINE+else-b-lt97+else-b-gt102}
 use Rattle.line.proofs.in_place.hex_end.Goals as goal

@@ -2,7 +2,6 @@ use mathlib.Core.Path.{refl}
 use native.Mathlib.Omega.{arith}
 use Rattle.semantics.specs.Sheet.{lettered}
 use Rattle.line.proofs.QuickFields.{letter-got}
-use borrow.Author.Rules.{rules}
 use Rattle.line.proofs.in_place.letter_at.Goals as goal
 
 pub returns-then-end-sheet : goal.returns-then-end-sheet

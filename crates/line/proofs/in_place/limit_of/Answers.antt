@@ -1,8 +1,5 @@
-use borrow.Author.Rules.{rules}
-use mathlib.Core.Path.{◌≡◌, refl, sym, ◌∙◌, ap}
+use mathlib.Core.Path.{◌∙◌}
 use native.Mathlib.Omega.{arith}
-use Prim.Native.Nat.{◌+◌, ◌-◌, ◌*◌, ◌≤◌, ◌<◌}
-use lib.ListN.{length, get_or, drop}
 use Rattle.line.specs.Fields.{field_of, value_at}
 use Rattle.line.proofs.QuickFields.{fits}
 use Rattle.line.proofs.ValueLaws.{as-variable, as-two, as-three, as-operator, as-count}

@@ -1,9 +1,4 @@
-use borrow.Author.Rules.{rules}
-use mathlib.Core.Path.{◌≡◌, refl, sym, ◌∙◌, ap}
 use native.Mathlib.Omega.{arith}
-use Prim.Native.Nat.{◌+◌, ◌-◌, ◌*◌, ◌≤◌, ◌<◌}
-use lib.ListN.{length, get_or, drop}
-use Rattle.line.specs.Quick.{DigitsTo}
 use Rattle.line.proofs.QuickFields.{digits-on, digits-end}
 use Rattle.line.proofs.in_place.more_digits.Goals as goal
 

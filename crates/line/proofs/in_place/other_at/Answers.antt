@@ -1,9 +1,5 @@
-use mathlib.Core.Path.{◌≡◌, refl, sym, ◌∙◌, ap}
 use native.Mathlib.Omega.{arith}
-use Prim.Native.Nat.{◌+◌, ◌-◌, ◌*◌, ◌/◌, ◌%◌, ◌≤◌, ◌<◌}
-use lib.ListN.{length, get_or, drop}
 use Rattle.line.proofs.QuickFields.{other-got}
-use borrow.Author.Rules.{rules}
 use Rattle.line.proofs.in_place.other_at.Goals as goal
 
 pub returns-then-end-sheet : goal.returns-then-end-sheet

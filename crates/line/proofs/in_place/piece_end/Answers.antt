@@ -1,9 +1,3 @@
-use borrow.Author.Rules.{rules}
-use mathlib.Core.Path.{◌≡◌, refl, sym, ◌∙◌, ap}
-use native.Mathlib.Omega.{arith}
-use Prim.Native.Nat.{◌+◌, ◌-◌, ◌*◌, ◌≤◌, ◌<◌}
-use lib.ListN.{length, get_or, drop}
-use Rattle.line.specs.Quick.{PieceTo}
 use Rattle.line.proofs.QuickFields.{piece-start, piece-on}
 use Rattle.line.proofs.in_place.piece_end.Goals as goal
 

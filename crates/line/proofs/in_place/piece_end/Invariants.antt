@@ -1,12 +1,6 @@
-use borrow.Author.Rules.{rules}
-use mathlib.Core.Path.{◌≡◌, refl, sym, ◌∙◌, ap}
-use native.Mathlib.Omega.{arith}
-use Prim.Native.Nat.{◌+◌, ◌-◌, ◌*◌, ◌≤◌, ◌<◌}
-use lib.ListN.{length, get_or, drop}
+use Prim.Native.Nat.{◌-◌}
+use lib.ListN.{length}
 use Rattle.line.specs.Quick.{PieceTo}
-use Rattle.line.proofs.QuickFields.{piece-start, piece-on}
-use Rattle.line.proofs.in_place.piece_end.Reads as reads
-use Rattle.line.proofs.in_place.piece_end.Lts as lts
 use Rattle.line.proofs.in_place.piece_end.Given as goal
 
 abbrev pub invariant-loop-i : goal.invariant-loop-i

@@ -1,6 +1,5 @@
 use mathlib.Core.Path.{refl}
 use native.Mathlib.Omega.{arith}
-use borrow.Author.Rules.{rules}
 use Rattle.line.proofs.KnownLaws.{binding-digits, binding-small, binding-says}
 use Rattle.line.proofs.known.bound_at.Goals as goal
 

@@ -1,8 +1,6 @@
 use mathlib.Core.Path.{refl}
-use native.Mathlib.Omega.{arith}
 use Rattle.line.proofs.QuickFields.{dash-got, dashed-alias}
 use Rattle.line.proofs.KnownFields.{spelled-high, got-high, alias-spelled, dash-inside}
-use borrow.Author.Rules.{rules}
 use Rattle.line.proofs.known.known_alias.Goals as goal
 
 pub returns-then-sheet-at-eq-DASH : goal.returns-then-sheet-at-eq-DASH

@@ -1,9 +1,5 @@
-use borrow.Author.Rules.{rules}
-use Prim.Native.Nat.{◌-◌}
 use native.Mathlib.Omega.{arith}
-use lib.ListN.{length}
-use Rattle.line.specs.Known.{DigitsAt}
-use Rattle.line.proofs.KnownLaws.{DigitsFrom, digits_in, digits-next, digits-over, digits_more}
+use Rattle.line.proofs.KnownLaws.{digits_in, digits-next, digits-over, digits_more}
 use Rattle.line.proofs.known.known_digits.Goals as goal
 
 pub loop-at-init : goal.loop-at-init

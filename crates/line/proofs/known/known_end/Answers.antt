@@ -1,9 +1,5 @@
-use Prim.Native.Nat.{◌-◌, ◌≤◌}
 use native.Mathlib.Omega.{arith}
-use lib.ListN.{length}
-use Rattle.line.specs.Known.{HighAt}
 use Rattle.line.proofs.KnownFields.{high-in, high-more, high-over}
-use borrow.Author.Rules.{rules}
 use Rattle.line.proofs.known.known_end.Goals as goal
 
 pub loop-i-init : goal.loop-i-init

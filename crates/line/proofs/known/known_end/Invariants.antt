@@ -1,11 +1,6 @@
 use Prim.Native.Nat.{◌-◌, ◌≤◌}
-use native.Mathlib.Omega.{arith}
 use lib.ListN.{length}
 use Rattle.line.specs.Known.{HighAt}
-use Rattle.line.proofs.KnownFields.{high-in, high-more, high-over}
-use borrow.Author.Rules.{rules}
-use Rattle.line.proofs.known.known_end.Reads as reads
-use Rattle.line.proofs.known.known_end.Lts as lts
 use Rattle.line.proofs.known.known_end.Given as goal
 
 abbrev pub invariant-loop-i : goal.invariant-loop-i

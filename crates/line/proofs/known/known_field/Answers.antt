@@ -1,6 +1,4 @@
-use native.Mathlib.Omega.{arith}
 use Rattle.line.proofs.KnownFields.{counted-digits, got-counted, number-counted, spelled-name, spelled-float}
-use borrow.Author.Rules.{rules}
 use Rattle.line.proofs.known.known_field.Goals as goal
 
 pub known_digits-requires : goal.known_digits-requires

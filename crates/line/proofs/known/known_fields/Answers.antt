@@ -1,9 +1,7 @@
 use native.Mathlib.Omega.{arith}
-use Prim.Native.Nat.{◌-◌, ◌/◌}
 use Rattle.line.proofs.FillLaws.{store-small}
-use Rattle.line.proofs.QuickLaws.{QuickInv, quick-start, quick-on, quick-closed}
+use Rattle.line.proofs.QuickLaws.{quick-start, quick-on, quick-closed}
 use Rattle.line.proofs.KnownFields.{next-fine}
-use borrow.Author.Rules.{rules}
 use Rattle.line.proofs.known.known_fields.Goals as goal
 
 pub loop-j-init : goal.loop-j-init

@@ -1,16 +1,5 @@
-use native.Mathlib.Omega.{arith}
 use Prim.Native.Nat.{◌-◌, ◌/◌}
-use Rattle.line.proofs.FillLaws.{store-small}
-use Rattle.line.proofs.QuickLaws.{QuickInv, quick-start, quick-on, quick-closed}
-use Rattle.line.proofs.KnownFields.{next-fine}
-use borrow.Author.Rules.{rules}
-use Rattle.line.proofs.known.known_fields.Reads as reads
-use Rattle.line.proofs.known.known_fields.Lts as lts
-use Rattle.line.proofs.field.no_fields.Reads as no-fields-reads
-use Rattle.line.proofs.field.store.Reads as store-reads
-use Rattle.line.proofs.known.known_field.Reads as known-field-reads
-use Rattle.line.proofs.quick.closed.Reads as closed-reads
-use Rattle.line.proofs.quick.unread.Reads as unread-reads
+use Rattle.line.proofs.QuickLaws.{QuickInv}
 use Rattle.line.proofs.known.known_fields.Given as goal
 
 abbrev pub invariant-loop-j : goal.invariant-loop-j

@@ -1,5 +1,4 @@
 use Rattle.line.proofs.KnownFields.{spelled-high, got-high}
-use borrow.Author.Rules.{rules}
 use Rattle.line.proofs.known.known_name.Goals as goal
 
 pub known_end-requires : goal.known_end-requires

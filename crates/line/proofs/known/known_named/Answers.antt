@@ -1,10 +1,9 @@
-use mathlib.Core.Path.{◌∙◌, refl, sym}
+use mathlib.Core.Path.{◌∙◌, refl}
 use native.Mathlib.Omega.{arith}
 use lib.ListN.{get_or}
 use Rattle.line.specs.Arrays.{slots}
 use Rattle.line.proofs.QuickLaws.{quick-one, quick-closed, name-stored}
 use Rattle.line.proofs.KnownFields.{one-high, one_name}
-use borrow.Author.Rules.{rules}
 use Rattle.line.proofs.known.known_named.Goals as goal
 
 pub returns-then-sheet-end-ne-COMMA : goal.returns-then-sheet-end-ne-COMMA

@@ -1,9 +1,8 @@
-use mathlib.Core.Path.{◌∙◌, sym}
+use mathlib.Core.Path.{◌∙◌}
 use native.Mathlib.Omega.{arith}
 use Rattle.line.proofs.FillLaws.{store-small}
 use Rattle.line.proofs.QuickLaws.{quick-one, quick-closed}
 use Rattle.line.proofs.KnownFields.{one-digits, one_number}
-use borrow.Author.Rules.{rules}
 use Rattle.line.proofs.known.known_number.Goals as goal
 
 pub returns-then-sheet-end-ne-COMMA : goal.returns-then-sheet-end-ne-COMMA

@@ -1,8 +1,6 @@
 use mathlib.Core.Path.{refl}
-use native.Mathlib.Omega.{arith}
 use Rattle.line.proofs.QuickFields.{dash-got, dashed-optional}
 use Rattle.line.proofs.KnownFields.{counted-digits, got-counted, optional-counted, dash-inside}
-use borrow.Author.Rules.{rules}
 use Rattle.line.proofs.known.known_optional.Goals as goal
 
 pub returns-then-sheet-at-eq-DASH : goal.returns-then-sheet-at-eq-DASH

@@ -1,6 +1,5 @@
 use native.Mathlib.Omega.{arith}
 use Rattle.line.proofs.KnownFields.{minus-digits, minus-small, got-minus, plus-digits, plus-small, got-plus}
-use borrow.Author.Rules.{rules}
 use Rattle.line.proofs.known.known_signed.Goals as goal
 
 pub known_digits-g-requires : goal.known_digits-g-requires

@@ -1,8 +1,3 @@
-use borrow.Author.Rules.{rules}
-use Rattle.semantics.specs.Bytes.{split}
-use lib.ListN.{length, drop}
-use Prim.Native.Nat.{◌+◌, ◌≤◌, ◌-◌, ◌<◌}
-use mathlib.Core.Path.{◌≡◌, refl, sym, ◌∙◌, ap}
 use native.Mathlib.Omega.{arith}
 use Rattle.line.proofs.LineLaws.{comma-hit, comma-miss, comma-end}
 use Rattle.line.proofs.line.commas.Goals.{then-line-i-eq-COMMA, else-line-i-eq-COMMA}

@@ -1,13 +1,7 @@
-use borrow.Author.Rules.{rules}
 use Rattle.semantics.specs.Bytes.{split}
 use lib.ListN.{length, drop}
-use Prim.Native.Nat.{◌+◌, ◌≤◌, ◌-◌, ◌<◌}
-use mathlib.Core.Logic.{⊎_elim}
-use mathlib.Core.Path.{◌≡◌, refl, sym, ◌∙◌, ap}
-use native.Mathlib.Omega.{arith}
-use Rattle.line.proofs.LineLaws.{comma-hit, comma-miss, comma-end}
-use Rattle.line.proofs.line.commas.Reads as reads
-use Rattle.line.proofs.line.commas.Lts as lts
+use Prim.Native.Nat.{◌+◌, ◌≤◌, ◌-◌}
+use mathlib.Core.Path.{◌≡◌}
 use Rattle.line.proofs.line.commas.Given as goal
 
 abbrev pub invariant-loop-i : goal.invariant-loop-i

@@ -1,7 +1,5 @@
-use mathlib.Core.Path.{◌≡◌, refl, sym, ◌∙◌, ap}
-use native.Mathlib.Omega.{arith}
+use mathlib.Core.Path.{refl}
 use Rattle.line.proofs.ReadLaws.{read-cut, read_whole}
-use borrow.Author.Rules.{rules}
 use Rattle.line.proofs.line.read_any.Goals as goal
 
 pub returns-then-end-sheet : goal.returns-then-end-sheet

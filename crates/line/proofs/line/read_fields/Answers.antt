@@ -1,9 +1,6 @@
 use Rattle.line.proofs.FillLaws.{store-small}
-use borrow.Author.Rules.{rules}
-use mathlib.Core.Path.{◌≡◌, refl, sym, ◌∙◌, ap}
-use Prim.Native.Nat.{◌-◌}
 use native.Mathlib.Omega.{arith}
-use Rattle.line.proofs.LineLaws.{FillInv, fill_start, fill-inside, fill_stop, fill_on, fill_end}
+use Rattle.line.proofs.LineLaws.{fill_start, fill-inside, fill_stop, fill_on, fill_end}
 use Rattle.line.proofs.line.read_fields.Goals as goal
 
 pub loop-j-init : goal.loop-j-init

@@ -1,8 +1,4 @@
-use mathlib.Core.Path.{◌≡◌, refl, sym, ◌∙◌, ap}
 use native.Mathlib.Omega.{arith}
-use Prim.Native.Nat.{◌+◌, ◌-◌, ◌*◌, ◌/◌, ◌%◌, ◌≤◌, ◌<◌}
-use lib.ListN.{length, get_or, drop}
-use borrow.Author.Rules.{rules}
 use Rattle.line.proofs.line.read_line.Goals as goal
 
 pub returns-then-h-ne0 : goal.returns-then-h-ne0

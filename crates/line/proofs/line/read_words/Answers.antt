@@ -1,7 +1,6 @@
-use mathlib.Core.Path.{◌≡◌, refl, sym, ◌∙◌, ap}
+use mathlib.Core.Path.{refl}
 use native.Mathlib.Omega.{arith}
 use Rattle.line.proofs.ReadLaws.{read-unknown, read_count, read-many, read-filled}
-use borrow.Author.Rules.{rules}
 use Rattle.line.proofs.line.read_words.Goals as goal
 
 pub returns-then-word-eq0 : goal.returns-then-word-eq0

@@ -1,8 +1,4 @@
-use borrow.Author.Rules.{rules}
-use Rattle.line.specs.Rows.{code_from}
-use lib.ListN.{length, drop}
-use Prim.Native.Nat.{◌≤◌, ◌-◌, ◌<◌}
-use mathlib.Core.Path.{◌≡◌, refl, sym, ◌∙◌, ap}
+use mathlib.Core.Path.{refl, sym, ◌∙◌}
 use native.Mathlib.Omega.{arith}
 use Rattle.line.proofs.LineLaws.{code-on, code-over, code-end}
 use Rattle.line.proofs.line.word_code.Goals as goal

@@ -1,7 +1,6 @@
 use native.Mathlib.Omega.{arith}
 use Rattle.line.proofs.OpeningLaws.{lead-inside, opened-more, opened-bare, opened-read}
 use Rattle.line.proofs.KnownLaws.{not-fine}
-use borrow.Author.Rules.{rules}
 use Rattle.line.proofs.opening.opening_of.Goals as goal
 
 pub bounds-sheet-end : goal.bounds-sheet-end

@@ -1,8 +1,4 @@
-use mathlib.Core.Path.{◌≡◌, refl, sym, ◌∙◌, ap}
 use native.Mathlib.Omega.{arith}
-use Prim.Native.Nat.{◌+◌, ◌-◌, ◌*◌, ◌≤◌, ◌<◌}
-use lib.ListN.{length, get_or, drop}
-use borrow.Author.Rules.{rules}
 use Rattle.line.proofs.quick.closed.Goals as goal
 
 pub returns-then-sheet-end-eq-LINE_END : goal.returns-then-sheet-end-eq-LINE_END

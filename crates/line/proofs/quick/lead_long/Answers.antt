@@ -1,10 +1,5 @@
-use borrow.Author.Rules.{rules}
-use mathlib.Core.Path.{◌≡◌, refl, sym, ◌∙◌, ap}
 use native.Mathlib.Omega.{arith}
-use Prim.Native.Nat.{◌+◌, ◌-◌, ◌*◌, ◌≤◌, ◌<◌}
-use lib.ListN.{length, get_or, drop}
-use Rattle.line.specs.Quick.{Clean}
-use Rattle.line.proofs.QuickLaws.{LeadTo, lead-start, lead-on, lead-end}
+use Rattle.line.proofs.QuickLaws.{lead-start, lead-on, lead-end}
 use Rattle.line.proofs.quick.lead_long.Goals as goal
 
 pub loop-i-init : goal.loop-i-init

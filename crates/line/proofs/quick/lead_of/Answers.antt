@@ -1,6 +1,5 @@
 use native.Mathlib.Omega.{arith}
 use Rattle.line.proofs.QuickLaws.{lead-three, lead-four}
-use borrow.Author.Rules.{rules}
 use Rattle.line.proofs.quick.lead_of.Goals as goal
 
 pub returns-then-d-lt97 : goal.returns-then-d-lt97

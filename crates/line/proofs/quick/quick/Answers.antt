@@ -1,7 +1,6 @@
 use mathlib.Core.Path.{sym, ◌∙◌}
 use native.Mathlib.Omega.{arith}
 use Rattle.line.proofs.QuickLaws.{quick-lead, quick-bare, one_field}
-use borrow.Author.Rules.{rules}
 use Rattle.line.proofs.quick.quick.Goals as goal
 
 pub returns-then-word-eq0 : goal.returns-then-word-eq0

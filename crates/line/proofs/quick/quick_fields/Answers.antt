@@ -1,11 +1,6 @@
-use borrow.Author.Rules.{rules}
-use mathlib.Core.Path.{◌≡◌, refl, sym, ◌∙◌, ap}
 use native.Mathlib.Omega.{arith}
-use Prim.Native.Nat.{◌+◌, ◌-◌, ◌*◌, ◌/◌, ◌%◌, ◌≤◌, ◌<◌}
-use lib.ListN.{length, get_or, drop}
-use Rattle.line.specs.Arrays.{shapes, slots}
 use Rattle.line.proofs.FillLaws.{store-small}
-use Rattle.line.proofs.QuickLaws.{QuickInv, quick-start, quick-on, quick-one, quick-closed}
+use Rattle.line.proofs.QuickLaws.{quick-start, quick-on, quick-closed}
 use Rattle.line.proofs.quick.quick_fields.Goals as goal
 
 pub loop-j-init : goal.loop-j-init

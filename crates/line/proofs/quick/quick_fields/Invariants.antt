@@ -1,18 +1,5 @@
-use borrow.Author.Rules.{rules}
-use mathlib.Core.Path.{◌≡◌, refl, sym, ◌∙◌, ap}
-use native.Mathlib.Omega.{arith}
-use Prim.Native.Nat.{◌+◌, ◌-◌, ◌*◌, ◌/◌, ◌%◌, ◌≤◌, ◌<◌}
-use lib.ListN.{length, get_or, drop}
-use Rattle.line.specs.Arrays.{shapes, slots}
-use Rattle.line.proofs.FillLaws.{store-small}
-use Rattle.line.proofs.QuickLaws.{QuickInv, quick-start, quick-on, quick-one, quick-closed}
-use Rattle.line.proofs.quick.quick_fields.Reads as reads
-use Rattle.line.proofs.quick.quick_fields.Lts as lts
-use Rattle.line.proofs.in_place.field_at.Reads as field-at-reads
-use Rattle.line.proofs.field.no_fields.Reads as no-fields-reads
-use Rattle.line.proofs.field.store.Reads as store-reads
-use Rattle.line.proofs.quick.closed.Reads as closed-reads
-use Rattle.line.proofs.quick.unread.Reads as unread-reads
+use Prim.Native.Nat.{◌-◌, ◌/◌}
+use Rattle.line.proofs.QuickLaws.{QuickInv}
 use Rattle.line.proofs.quick.quick_fields.Given as goal
 
 abbrev pub invariant-loop-j : goal.invariant-loop-j

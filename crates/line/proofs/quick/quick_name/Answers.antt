@@ -1,11 +1,8 @@
-use mathlib.Core.Path.{◌≡◌, refl, sym, ◌∙◌, ap}
+use mathlib.Core.Path.{refl, ◌∙◌}
 use native.Mathlib.Omega.{arith}
-use Prim.Native.Nat.{◌+◌, ◌-◌, ◌*◌, ◌/◌, ◌%◌, ◌≤◌, ◌<◌}
-use lib.ListN.{length, get_or, drop}
-use Rattle.line.specs.Arrays.{shapes, slots}
-use Rattle.line.proofs.FillLaws.{store-small}
-use Rattle.line.proofs.QuickLaws.{QuickInv, quick-start, quick-on, quick-one, quick-closed, name-stored}
-use borrow.Author.Rules.{rules}
+use lib.ListN.{get_or}
+use Rattle.line.specs.Arrays.{slots}
+use Rattle.line.proofs.QuickLaws.{quick-one, quick-closed, name-stored}
 use Rattle.line.proofs.quick.quick_name.Goals as goal
 
 pub returns-then-sheet-end-ne-COMMA : goal.returns-then-sheet-end-ne-COMMA

@@ -1,11 +1,7 @@
-use mathlib.Core.Path.{◌≡◌, refl, sym, ◌∙◌, ap}
+use mathlib.Core.Path.{◌∙◌}
 use native.Mathlib.Omega.{arith}
-use Prim.Native.Nat.{◌+◌, ◌-◌, ◌*◌, ◌/◌, ◌%◌, ◌≤◌, ◌<◌}
-use lib.ListN.{length, get_or, drop}
-use Rattle.line.specs.Arrays.{shapes, slots}
 use Rattle.line.proofs.FillLaws.{store-small}
-use Rattle.line.proofs.QuickLaws.{QuickInv, quick-start, quick-on, quick-one, quick-closed}
-use borrow.Author.Rules.{rules}
+use Rattle.line.proofs.QuickLaws.{quick-one, quick-closed}
 use Rattle.line.proofs.quick.quick_number.Goals as goal
 
 pub returns-then-sheet-end-ne-COMMA : goal.returns-then-sheet-end-ne-COMMA

@@ -1,5 +1,4 @@
 use Rattle.line.proofs.Tables.{group_at}
-use borrow.Author.Rules.{rules}
 use Rattle.line.proofs.table.group1_of.Goals as goal
 
 pub returns : goal.returns

@@ -1,5 +1,5 @@
 -- `row_of`: an arm's number is the word's, and its row above it; where no arm is met no word is. Made by tools/line_table.py. Assumes nothing.
-use mathlib.Core.Path.{refl, ap}
+use mathlib.Core.Path.{ap}
 use Prim.Native.Nat.{ℕ, ◌+◌, ◌*◌}
 use lib.ListN.{get_or}
 use Rattle.line.specs.Arrays.{field_rows}

@@ -1,5 +1,4 @@
 use Rattle.line.proofs.Tables.{shapes-at}
-use borrow.Author.Rules.{rules}
 use Rattle.line.proofs.table.shapes_of.Goals as goal
 
 pub returns : goal.returns
