@@ -13,7 +13,7 @@ use Rattle.semantics.specs.Bytes.{Bytes, hex, unhex, split, decimal}
 use Rattle.semantics.specs.Limits.{variable_limit}
 use Rattle.semantics.specs.Ty.{t_any, Ty, base, t_list, t_map, Fields, ∅ᶠ, line}
 use Rattle.semantics.specs.Builtins.{lookup, element_of, list_or}
-use Rattle.semantics.specs.Sheet.{Word, var_word, Head, variable, num, variable_of, Typing, constant, var_type, element, slice as slicing, listing, mapping, calling, operator, unary, casing, membership, comprehension, typed, row, rule, wrong, variable_v, into, within, value, Read, bad, ok, fill, bare, word_in, words}
+use Rattle.semantics.specs.Sheet.{Word, var_word, Head, variable, variable_of, Typing, constant, var_type, element, slice as slicing, listing, mapping, calling, operator, unary, casing, membership, comprehension, typed, row, wrong, variable_v, into, within, value, Read, bad, ok, fill, bare, word_in, words}
 use Rattle.semantics.specs.Walk.{Env, kind_type, var_type_of, op, unary_type, unary_faults, call_type, call_faults}
 use Rattle.semantics.proofs.Named.{Maybe, Digits}
 use Rattle.semantics.proofs.Reader.{unhex-sound}

@@ -14,7 +14,7 @@ use Rattle.semantics.specs.Limits.{type_limit, nesting_limit}
 use Rattle.semantics.specs.Bytes.{Bytes, split}
 use Rattle.semantics.specs.Ty.{Ty, line, nesting, too_large}
 use Rattle.semantics.specs.Sheet.{Head, expression_place, at, rank, place, arity}
-use Rattle.semantics.specs.Walk.{Env, Res, Top, step, walk, all_tests}
+use Rattle.semantics.specs.Walk.{Env, Res, Top, walk, all_tests}
 use Rattle.semantics.specs.Calls.{first_large, fault_count, top_line, report}
 use Rattle.semantics.proofs.All.{all_take}
 use Rattle.walk_run.specs.Run.{judged_by, judged}
@@ -32,12 +32,12 @@ use Rattle.line.proofs.OpeningLaws.{behind-ends}
 use Rattle.line.specs.Known.{FineAt}
 use Rattle.line.specs.declared.line.Head.{Head as Seen}
 use Rattle.line.specs.declared.line.HirId.{HirId}
-use Rattle.hir.specs.Lines.{LineAt, Lines, no_line, a-line, Met}
+use Rattle.hir.specs.Lines.{LineAt, Lines, no_line, a-line}
 use Rattle.line.proofs.KnownLaws.{same_place}
-use Rattle.hir.proofs.LinesLaws.{Inner, read_at}
+use Rattle.hir.proofs.LinesLaws.{read_at}
 use Rattle.hir.proofs.PlaceLaws.{class_of, class-is}
 use Rattle.tops.specs.Tops.{top_of, out_tops}
-use Rattle.tops.specs.Standing.{Standing, Skipped, Typed}
+use Rattle.tops.specs.Standing.{Standing, Typed}
 use Rattle.tops.proofs.TopsLaws.{stand-some, stand-end, out-end, stand-skip, stand-expr}
 use Rattle.ty.specs.Parts.{TypeAt}
 use Rattle.report.specs.Report.{faults_text, type_text, tops_text, end_text, Appends, Adds}
@@ -45,13 +45,12 @@ use Rattle.report.specs.declared.Tally.{Tally}
 use Rattle.report.proofs.ReportLaws.{◌▹◌, adds-text, tops-append, count-append, report-parts}
 use Rattle.bounds.proofs.Growth.{tree-faults}
 use Rattle.infer.specs.Steps.{EnvAs}
-use Rattle.infer.specs.Walks.{TreeAt, result_of, Counting, Behind, WalkedAs, Walked, ExprAt, ExprAsk, ExprWalked}
+use Rattle.infer.specs.Walks.{result_of, Behind, WalkedAs, Walked, ExprAt, ExprAsk, ExprWalked}
 use Rattle.infer.specs.Statement.{StatementAt, MadeAs}
 use Rattle.infer.specs.declared.step.Env.{Env as Binds}
 use Rattle.infer.specs.declared.walk.Cur.{Cur}
 use Rattle.infer.specs.declared.walk.Walk.{Walk}
 use Rattle.infer.specs.declared.walk.Walk.TheVariants.{Done, TooLarge}
-use Rattle.infer.specs.declared.statement.Report.{Report}
 use Rattle.infer.specs.declared.statement.Report.TheVariants.{Made, TooLarge as Stopped}
 
 -- ## Lines

@@ -1,11 +1,11 @@
 -- Any tree inside a clause: an expression, an entry that holds one, or neither. Assumes nothing.
 use mathlib.Core.Path.{◌≡◌, refl, sym, ◌∙◌, ap, subst}
 use mathlib.Core.List.{List, [], ◌∷◌, map}
-use Prim.Native.Nat.{ℕ, suc, ◌+◌, ◌-◌, ◌≤◌, ◌<◌}
+use Prim.Native.Nat.{ℕ, suc, ◌+◌, ◌≤◌, ◌<◌}
 use native.Mathlib.Omega.{arith}
 use lib.ListN.{length, take, drop}
 use Rattle.semantics.specs.Bytes.{Bytes, split}
-use Rattle.semantics.specs.Sheet.{Head, Place, expression_place, Role, Typing, Rule, silent, entering, rule, roles, arity, rank, place, at, wanted}
+use Rattle.semantics.specs.Sheet.{Head, Place, expression_place, Role, Typing, Rule, silent, entering, rule, roles, arity, rank, at, wanted}
 use Rattle.semantics.specs.Walk.{Env, Res, step, walk}
 use Rattle.line.specs.Rows.{word_no}
 use Rattle.line.specs.Line.{HeadIs, ReadAs}

@@ -8,8 +8,8 @@ use native.Mathlib.Numerals.{add-one}
 use lib.ListN.{length, take, drop, length-append, length-drop, drop_of_length-le}
 use lib.Seq.{length-take-le}
 use Rattle.semantics.specs.Bytes.{Bytes, hex, split}
-use Rattle.semantics.specs.Sheet.{Head, Role, answer, Typing, rule, roles, arity, at, wanted}
-use Rattle.semantics.specs.Walk.{Env, Fault, step, walk}
+use Rattle.semantics.specs.Sheet.{Head, Role, Typing, rule, roles, arity, wanted}
+use Rattle.semantics.specs.Walk.{Env, Fault, walk}
 use Rattle.semantics.proofs.All.{empty}
 use Rattle.line.specs.Line.{ReadAs}
 use Rattle.line.specs.Known.{FineAt}
@@ -28,7 +28,7 @@ use Rattle.ty.specs.Parts.{TypeAt}
 use Rattle.report.proofs.ReportLaws.{adds_then}
 use Rattle.report.specs.Report.{Adds}
 use Rattle.report.specs.declared.Tally.{Tally}
-use Rattle.walk_run.specs.Run.{Kept, empty, over, kept, both, items, last, entries, arms, start, child, end, Told, told, too_much, stopped, passed, after, kids, Ran, halted, typed, concluded, judged}
+use Rattle.walk_run.specs.Run.{Kept, empty, over, kept, both, items, last, entries, arms, start, child, end, Told, told, too_much, passed, after, kids, Ran, halted, typed, concluded, judged}
 use Rattle.exprs.specs.State.{behind as behind_of, StAs, Fine, FineKept}
 use Rattle.exprs.specs.declared.state.Accumulator.{Accumulator}
 use Rattle.exprs.specs.Rules.{typing_no, role_no}

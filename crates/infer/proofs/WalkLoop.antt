@@ -6,7 +6,7 @@ use Prim.Native.Nat.{ℕ, suc, ◌+◌, ◌-◌, ◌*◌, ◌≤◌, ◌<◌}
 use native.Mathlib.Omega.{arith}
 use lib.ListN.{length, take, drop}
 use Rattle.semantics.specs.Bytes.{Bytes}
-use Rattle.semantics.specs.Sheet.{Head, expression_place, Role, plain, inner, Rule, rule, roles, arity, rank, place, at, wanted, deeper, var_word, variable_of}
+use Rattle.semantics.specs.Sheet.{Head, expression_place, Role, Rule, rule, roles, arity, rank, place, at, wanted, deeper, var_word, variable_of}
 use Rattle.semantics.specs.Walk.{Env, Res, Fault, walk}
 use Rattle.semantics.proofs.All.{All, all_take}
 use Rattle.line.specs.Line.{HeadIs}
@@ -16,7 +16,7 @@ use Rattle.hir.proofs.LinesLaws.{Inner, AllIn, inner-under}
 use Rattle.report.proofs.ReportLaws.{adds_none}
 use Rattle.report.specs.Report.{faults_text, Adds}
 use Rattle.report.specs.declared.Tally.{Tally}
-use Rattle.walk_run.specs.Run.{Kept, start, child, end, Kids, stopped, passed, after, kids, halted, typed, concluded, closed, run_step, judged}
+use Rattle.walk_run.specs.Run.{Kept, start, end, Kids, stopped, passed, after, kids, halted, concluded, closed, run_step, judged}
 use Rattle.walk_run.specs.Depth.{levels}
 use Rattle.walk_run.proofs.Fine.{walk_fine}
 use Rattle.walk_run.proofs.Theorem.{step_run}

@@ -1,14 +1,14 @@
 -- The loop of `check_pattern` on plain values. Assumes nothing.
 use mathlib.Core.Path.{◌≡◌, refl, sym, ◌∙◌, ap, subst}
 use mathlib.Core.List.{List, [], ◌∷◌, ◌++◌, append-nil, append_assoc, map}
-use mathlib.Core.Option.{Option, none, some}
+use mathlib.Core.Option.{Option, none}
 use Prim.Native.Nat.{ℕ, suc, ◌+◌, ◌-◌, ◌*◌, ◌≤◌, ◌<◌}
 use native.Mathlib.Omega.{arith}
 use lib.ListN.{length, take, drop, set, length-set, length-map, length-append}
 use lib.Seq.{take-add}
 use Rattle.semantics.specs.Bytes.{Bytes, split}
 use Rattle.semantics.specs.Ty.{Ty, base, t_unknown}
-use Rattle.semantics.specs.Sheet.{Head, Place, first_place, binding_place, clause_place, end_place, projection_place, set_item_place, remove_item_place, label_place, parts_place, part_place, element_place, entry_place, item_place, expression_place, Role, plain, answer, inner, silent, rule, roles, arity, rank, place, Want, at, wanted, deeper, under}
+use Rattle.semantics.specs.Sheet.{Head, Place, first_place, binding_place, clause_place, end_place, projection_place, set_item_place, remove_item_place, label_place, parts_place, part_place, element_place, entry_place, item_place, expression_place, Role, silent, rule, roles, arity, rank, place, Want, at, wanted, deeper, under}
 use Rattle.semantics.specs.Walk.{Env, Res, Fault, type_of, step, walk, all_tests}
 use Rattle.semantics.specs.Calls.{first_large}
 use Rattle.line.specs.Line.{HeadIs, ReadAs}
@@ -21,7 +21,7 @@ use Rattle.hir.proofs.LinesLaws.{Inner, AllIn, one_in, inner-under, read_at}
 use Rattle.report.proofs.ReportLaws.{adds_none, adds_then}
 use Rattle.report.specs.Report.{faults_text, Adds}
 use Rattle.report.specs.declared.Tally.{Tally}
-use Rattle.walk_run.specs.Run.{end, Ran, halted, typed, judged, all_faults}
+use Rattle.walk_run.specs.Run.{Ran, halted, typed, judged, all_faults}
 use Rattle.walk_run.proofs.Fine.{step_by_lem}
 use Rattle.walk_run.proofs.Steps.{first, first-append}
 use Rattle.bounds.proofs.Growth.{tree-faults}

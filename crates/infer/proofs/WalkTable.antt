@@ -4,11 +4,11 @@ use mathlib.Core.Bool.{Bool, true, false, not, ◌&&◌}
 use lib.Dec.{eqb}
 use borrow.Author.Tests.{eqb-true, eqb-false, not-true}
 use mathlib.Core.List.{List, [], ◌∷◌}
-use Prim.Native.Nat.{ℕ, suc, zero, ◌≤◌}
+use Prim.Native.Nat.{ℕ, ◌≤◌}
 use native.Mathlib.Omega.{arith}
 use lib.ListN.{length}
 use Rattle.semantics.specs.Sheet.{kids, Word, Shape, nothing, one, two, bounds, arms, times, times_then, around, one_then, one_times, Head, Role, plain, condition, answer, inner, entry_place, Typing, constant, var_type, element, slice, listing, mapping, calling, operator, unary, casing, membership, comprehension, Rule, silent, entering, typed, row, rank, rule, place, roles, arity}
-use Rattle.semantics.proofs.All.{All, empty, also}
+use Rattle.semantics.proofs.All.{All}
 use Rattle.semantics.proofs.Words.{holds, named, each, kids-each}
 use Rattle.walk_run.proofs.Silent.{entry-one}
 use Rattle.line.specs.Rows.{word_no}

@@ -15,7 +15,6 @@ use Rattle.semantics.specs.Calls.{first_large}
 use Rattle.hir.specs.Lines.{LineAt, Lines, no_line, a-line, Met, all-met, meets}
 use Rattle.hir.proofs.LinesLaws.{met-split, Inner, AllIn, none_in, one_in, inner-under, met-walk}
 use Rattle.walk_run.specs.Run.{halted, typed, judged, all_faults}
-use Rattle.walk_run.proofs.Steps.{first}
 use Rattle.walk_run.proofs.Silent.{silent-run, entering-run}
 use Rattle.bounds.proofs.Growth.{under-many, all_in}
 use Rattle.infer.specs.Walks.{result_of}

@@ -7,7 +7,7 @@ use native.Mathlib.Omega.{arith}
 use lib.ListN.{length, get_or, take, drop, length-append}
 use lib.Seq.{drop-cons}
 use Rattle.semantics.specs.Bytes.{Bytes, split}
-use Rattle.semantics.specs.Sheet.{Head, Place, expression_place, entry_place, Role, plain, condition, answer, inner, Typing, mapping, entering, rule, roles, arity, rank, place, Want, at, wanted}
+use Rattle.semantics.specs.Sheet.{Head, Place, expression_place, entry_place, Role, plain, condition, answer, inner, Typing, mapping, entering, rule, roles, arity, rank, Want, at, wanted}
 use Rattle.semantics.specs.Walk.{Env, Res, Fault, asked, step, walk}
 use Rattle.semantics.specs.Calls.{first_large}
 use Rattle.semantics.proofs.All.{All, also, all_drop}
@@ -23,7 +23,7 @@ use Rattle.unify_run.specs.Run.{given}
 use Rattle.report.proofs.ReportLaws.{adds_then, faults-short}
 use Rattle.report.specs.Report.{Adds}
 use Rattle.report.specs.declared.Tally.{Tally}
-use Rattle.walk_run.specs.Run.{Kept, start, child, end, Kids, stopped, after, halt_at, kids, Ran, halted, judged}
+use Rattle.walk_run.specs.Run.{Kept, start, child, Kids, stopped, after, halt_at, kids, Ran, halted, judged}
 use Rattle.walk_run.specs.Depth.{levels}
 use Rattle.walk_run.proofs.Fine.{FineRes, walk_fine}
 use Rattle.walk_run.proofs.Silent.{entering-run}

@@ -1,5 +1,5 @@
 -- What the walks require and ensure: the trees of lines that stand at a cursor, and what they come to.
-use Rattle.std.specs.Prelude.{◌≡◌, List, [], ◌∷◌, ℕ, suc, ◌+◌, ◌-◌, ◌*◌, ◌<◌, ◌≤◌, ◌^◌, length, get_or, take, drop}
+use Rattle.std.specs.Prelude.{◌≡◌, List, [], ◌∷◌, ℕ, suc, ◌+◌, ◌*◌, ◌<◌, ◌≤◌, ◌^◌, length, get_or, take, drop}
 use Rattle.semantics.specs.Limits.{type_limit}
 use Rattle.semantics.specs.Codes.{line_feed, end_rank}
 use Rattle.semantics.specs.Bytes.{Bytes, split}

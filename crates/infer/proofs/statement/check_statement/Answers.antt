@@ -1,10 +1,7 @@
-use borrow.Author.Rules.{rules}
-use mathlib.Core.Path.{◌≡◌, refl, sym, ◌∙◌, ap}
-use Prim.Native.Nat.{◌+◌, ◌-◌, ◌*◌, ◌<◌, ◌≤◌}
+use mathlib.Core.Path.{refl, sym, ◌∙◌}
 use native.Mathlib.Omega.{arith}
-use lib.ListN.{length}
 use lib.Seq.{length-take-le}
-use Rattle.infer.proofs.StatementLaws.{Mid, mid_start, mid-inside, mid-fill, mid-types, mid-end, mid-line, mid-class, mid-skip, mid-ask, mid-long, mid-as-long, mid-large, mid_len, mid-room, mid-on, mid-kept, mid-typed, mid-below, as_long, less, Going, mid-fine}
+use Rattle.infer.proofs.StatementLaws.{mid_start, mid-inside, mid-fill, mid-types, mid-end, mid-line, mid-class, mid-skip, mid-ask, mid-long, mid-as-long, mid-large, mid_len, mid-room, mid-on, mid-kept, mid-typed, mid-below, as_long, less, mid-fine}
 use Rattle.infer.proofs.statement.check_statement.Goals as goal
 
 pub loop-b-init : goal.loop-b-init

@@ -1,4 +1,3 @@
-use borrow.Author.Rules.{rules}
 use Rattle.infer.proofs.statement.infer_top.Goals as goal
 
 pub infer_leaf-requires : goal.infer_leaf-requires

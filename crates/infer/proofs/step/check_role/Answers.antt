@@ -1,4 +1,3 @@
-use borrow.Author.Rules.{rules}
 use native.Mathlib.Omega.{arith}
 use Rattle.infer.proofs.StepLaws.{ask-bool, ask-none}
 use Rattle.infer.proofs.step.check_role.Goals as goal

@@ -1,4 +1,3 @@
-use borrow.Author.Rules.{rules}
 use Rattle.infer.proofs.EndLaws.{spelt-end}
 use Rattle.infer.proofs.step.spelt.Goals as goal
 

@@ -1,6 +1,5 @@
 use native.Mathlib.Omega.{arith}
 use mathlib.Core.Path.{refl}
-use borrow.Author.Rules.{rules}
 use Rattle.infer.proofs.StepLaws.{start-list, start-map, start-arms, start-last, start-empty}
 use Rattle.infer.proofs.step.start.Goals as goal
 

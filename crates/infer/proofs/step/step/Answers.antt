@@ -1,4 +1,3 @@
-use borrow.Author.Rules.{rules}
 use Rattle.infer.proofs.StepLaws.{child-first, child-kind, step-on, step-large}
 use Rattle.infer.proofs.step.step.Goals as goal
 

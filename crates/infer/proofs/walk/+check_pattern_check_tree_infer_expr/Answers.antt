@@ -1,16 +1,11 @@
 -- The cycle {check_pattern, check_tree, infer_expr}. Each answer is a law of `WalkCycle`, `WalkPattern` or `WalkEnter` at the facts of its place. Assumes nothing.
 use lib.Seq.{lt-length-set}
-use borrow.Author.Rules.{rules}
-use lib.ListN.{length}
-use mathlib.Core.Logic.{⊎_elim}
-use Prim.Native.Nat.{◌-◌, ◌*◌, ◌+◌}
 use mathlib.Core.Path.{sym, ◌∙◌}
 use native.Mathlib.Omega.{arith}
 use Rattle.infer.specs.Walks.{ExprWalked}
 use Rattle.infer.proofs.WalkLeaf.{joined}
 use Rattle.infer.proofs.WalkEnter.{enters, via-ask, via-walked, neither-ask, neither-walked}
-use Rattle.infer.proofs.WalkCycle.{InferInv, infer-kids, infer-past, infer-wide, infer-pos, infer-start, infer-inside, infer-len, infer-role, infer-child, infer-stop, infer-halt, infer-step, infer-after, infer-large, infer-on, infer-finish, infer-end, PatternInv, pattern-start, pattern-inside, pattern-line, pattern-todo, pattern-room, pattern-ask, pattern-long, pattern-out, pattern-stop, pattern-down, pattern-on, pattern-kids, pattern-past, pattern-pass, pattern-end, infer-fine, pattern-fine}
-use Prim.Native.Nat.{ℕ, ◌<◌}
+use Rattle.infer.proofs.WalkCycle.{infer-kids, infer-past, infer-wide, infer-pos, infer-start, infer-inside, infer-len, infer-role, infer-child, infer-stop, infer-halt, infer-step, infer-large, infer-on, infer-finish, infer-end, pattern-start, pattern-inside, pattern-line, pattern-todo, pattern-room, pattern-ask, pattern-stop, pattern-down, pattern-on, pattern-kids, pattern-past, pattern-pass, pattern-end, infer-fine, pattern-fine}
 use Rattle.infer.proofs.walk.+check_pattern_check_tree_infer_expr.Goals as goal
 use Rattle.infer.proofs.walk.+check_pattern_check_tree_infer_expr.Goals.{check_pattern-then-is_leaf, check_pattern-else-is_leaf}
 

@@ -1,5 +1,4 @@
 use Rattle.infer.proofs.WalkLeaf.{leaf-past, leaf-bound, leaf-wide, leaf-variable, leaf-constant}
-use borrow.Author.Rules.{rules}
 use Rattle.infer.proofs.walk.infer_leaf.Goals as goal
 
 pub past-behind-requires : goal.past-behind-requires

@@ -1,5 +1,4 @@
 use mathlib.Core.Path.{refl, sym, subst}
-use borrow.Author.Rules.{rules}
 use Rattle.exprs.specs.declared.state.Ended.{Ended}
 use Rattle.infer.specs.Walks.{ToldAs}
 use Rattle.infer.specs.declared.walk.Walk.TheVariants.{Done, TooLarge}
