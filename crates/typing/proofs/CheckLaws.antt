@@ -1,14 +1,13 @@
 -- The validation's answer, by what `hir` says of the sheet. Assumes nothing.
-use mathlib.Core.Path.{◌≡◌, refl, sym, ap, ◌∙◌}
+use mathlib.Core.Path.{◌≡◌, sym, ap, ◌∙◌}
 use mathlib.Core.Bool.{Bool, true, false}
-use Prim.Native.Nat.{ℕ, ◌≤◌, ◌<◌}
+use Prim.Native.Nat.{◌≤◌, ◌<◌}
 use native.Mathlib.Omega.{arith}
-use lib.Dec.{ltb}
 use lib.ListN.{length}
 use borrow.Author.Tests.{lt-ltb, le-ltb}
 use Rattle.semantics.specs.Limits.{sheet_limit, depth_limit}
 use Rattle.semantics.specs.Bytes.{Bytes}
-use Rattle.semantics.specs.Sheet.{Sheet, sheet}
+use Rattle.semantics.specs.Sheet.{sheet}
 use Rattle.hir.specs.Check.{OutlineAs, is-refused, is-laid}
 use Rattle.hir.specs.declared.valid.Outline.{Outline}
 use Rattle.typing.specs.Checking.{CheckedAs, checked_by, checked, check_call}
