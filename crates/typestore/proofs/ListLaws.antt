@@ -1,6 +1,6 @@
 -- The lines of the live types, one behind the other. Assumes nothing.
 use mathlib.Core.Path.{◌≡◌, refl, sym, ◌∙◌, ap, subst}
-use mathlib.Core.List.{List, [], ◌∷◌, ◌++◌, append_assoc, append-nil}
+use mathlib.Core.List.{List, [], ◌++◌, append_assoc, append-nil}
 use mathlib.Core.Option.{Option, none, some}
 use Prim.Native.Nat.{ℕ, ◌+◌, ◌-◌, ◌*◌, ◌≤◌, ◌<◌}
 use native.Mathlib.Omega.{arith}
@@ -9,14 +9,14 @@ use lib.Seq.{length-sets}
 use Rattle.semantics.specs.Bytes.{Bytes, text}
 use Rattle.report.specs.Report.{Appends, numbers_text}
 use Rattle.report.proofs.ReportLaws.{◌▹◌}
-use Rattle.stores.specs.Catalogue.{Live, Catalogue, taken, read_store}
-use Rattle.catalogue.specs.Places.{at16, at32, Here, Run, Laid}
+use Rattle.stores.specs.Catalogue.{Live, Catalogue, read_store}
+use Rattle.catalogue.specs.Places.{at16, at32, Run, Laid}
 use Rattle.catalogue.specs.Stands.{Opened}
 use Rattle.catalogue.proofs.PlaceLaws.{run-le, First, first, nothing_left, Walk, part-text}
 use Rattle.catalogue.specs.Checks.{check_of}
 use Rattle.catalogue.specs.declared.form.Checked.TheVariants.{Bad}
 use Rattle.catalogue.proofs.CallLaws.{no_store}
-use Rattle.catalogue.proofs.Bytewise.{Known, known, run_inside}
+use Rattle.catalogue.proofs.Bytewise.{known, run_inside}
 use Rattle.typestore.specs.Answers.{line_text, lives_text, list_text, Says, Lines, Lists}
 use Rattle.typestore.specs.declared.answer.Said.{Said}
 use Rattle.typestore.specs.declared.list.Listed.{Listed}

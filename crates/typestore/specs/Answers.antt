@@ -4,7 +4,7 @@ use Rattle.std.proofs.Math.Option.{none, some}
 use Rattle.semantics.specs.Codes.{line_feed, comma}
 use Rattle.semantics.specs.Bytes.{Bytes, text, shown}
 use Rattle.report.specs.Report.{Appends, numbers_text, end_text}
-use Rattle.stores.specs.Catalogue.{store_head, Live, Catalogue, Ask, entering, releasing, looking_up, Told, Kept, read_store, store_call}
+use Rattle.stores.specs.Catalogue.{store_head, Live, Catalogue, Ask, entering, releasing, looking_up, Told, read_store, store_call}
 use Rattle.catalogue.specs.Places.{Run}
 use Rattle.typestore.specs.declared.answer.Said.{Said}
 use Rattle.typestore.specs.declared.list.Listed.{Listed}

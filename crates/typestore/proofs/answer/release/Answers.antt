@@ -1,0 +1,10 @@
+-- `release`: what is said is the answer of the call.
+use Rattle.std.proofs.Common.{refl, arith}
+use Rattle.catalogue.specs.Stands.{kept_by}
+use Rattle.semantics.specs.Bytes.{text}
+use Rattle.typestore.proofs.AnswerLaws.{answers}
+use Rattle.typestore.proofs.answer.release.Goals as goal
+
+pub returns : goal.returns
+unfolding text
+returns c = answers _ _ _ _ _ (kept_by c.release-c.result _) _ 64 c.release-c.ensures refl c.say.ensures (omega arith)
