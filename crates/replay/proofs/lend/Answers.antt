@@ -10,10 +10,10 @@ pub returns-then-o-gt65536 : goal.returns-then-o-gt65536
 returns-then-o-gt65536 c = skipped
 
 pub slice_bounds-call-end : goal.slice_bounds-call-end
-slice_bounds-call-end c = sym (length-take-le _ _ (array-borrow-prefix-work c))
+slice_bounds-call-end c = sym (length-take-le _ _ (search rules))
 
 pub slice_bounds-call-end-2 : goal.slice_bounds-call-end-2
-slice_bounds-call-end-2 c = sym (length-take-le _ _ (array-borrow-prefix-out c))
+slice_bounds-call-end-2 c = sym (length-take-le _ _ (search rules))
 
 pub returns : goal.returns
 returns c = rw (take-replicate _ 65537 170 c.if-w-gt65537.false, take-replicate _ 65536 187 c.if-o-gt65536.false) at c.call.ensures

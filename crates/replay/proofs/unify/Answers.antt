@@ -6,4 +6,4 @@ pub returns : goal.returns
 returns c =
     let a = c.args in
     let t = c.unify_types-c in
-    told a.work.now a.out.now a.expected.now _ _ t.ensures t.auto.1.1.0 t.auto.1.1.1.0 c.judge.ensures
+    told a.work.now a.out.now a.expected.now _ _ t.ensures t.auto.work t.auto.out c.judge.ensures
