@@ -1,7 +1,8 @@
 #!/usr/bin/env python3
 """Brings the repository's own definitions and lemmas to today's spelling, after port.py.
 
-usage: python3 tools/respell.py [FOLDER]     in FOLDER, or here: rewrites the files in place, once
+usage: python3 tools/respell.py [FOLDER]             in FOLDER, or here: rewrites the files in place, once
+       python3 tools/respell.py --fields [FOLDER]    the last step alone, on files that have had the others
 
 Words are in snake case, types and facts in camel case, a test begins with is_ or are_, and a constructor is a word. Functions of src/,
 exported names, strings, inputs and outputs stay. Names that would fall together with another are in LEMMAS and CONSTRUCTORS.
@@ -82,6 +83,23 @@ CONSTRUCTORS = {
     "Rattle.semantics.specs.Walk": {f: "fault_" + f[1:] for f in FAULTS},
 }
 
+# fields, constructors and functions of several words, whose dash joins no two names: each dash is an underscore
+FIELDS = (
+    "a-base a-binding a-bound a-choice a-float a-letter a-line a-map a-name a-variable all-at all-below all-binds all-clauses all-met "
+    "all-some an-alias an-entry arms-by before-list binding-digits binding-form case-two counted-digits equal-same fine-answer "
+    "fine-condition fine-inner fine-plain first-at first-end first-form first-free first-is first-labels from-here from-rest g-length "
+    "if-fit in-ali in-cal in-com in-cop in-lab in-later-field in-later-member in-member in-par in-prop in-range in-rp in-sho in-sp "
+    "in-str in-unr into-first is-entry is-laid is-refused is-silent is-so kid-run left-of list-part low-kids map-part members-at "
+    "members-fit minus-digits ms-length ms-plain name-part neither-at next-is no-alias no-binding no-choice no-entry no-labels no-rule "
+    "no-variable none-at not-close not-rel number-stands of-list of-union open-top outers-at outers-below outers-plain p-below p-in "
+    "pat-expr place-more plus-digits ps-length q-below q-in read-other rest-laid rest-refused same-call same-choices same-equal "
+    "second-end second-free second-labels some-entries some-members some-type some-variable spelled-high the-heads turn-any two-lists "
+    "two-maps two-nodes two-numbers two-relationships two-unions with-last with-variable "
+).split()
+
+# such names that another has already
+FIELDS_APART = {"role-no": "role_is", "rule-no": "rule_is", "two-slots": "room_for_two", "met?": "is_met", "small_aminus_ten": "small_a_minus_ten"}
+
 CAMEL = re.compile(r"(?<![\w'·/])[a-z]\w*")
 
 
@@ -139,6 +157,15 @@ def respell_part(path, text, whole):
     return CAMEL.sub(lambda m: respell_word(m.group(0)), text)
 
 
+FIELD = re.compile(r"(?<![\w'\-])(" + "|".join(sorted(map(re.escape, [*FIELDS, *FIELDS_APART]), key=len, reverse=True)) + r")(?![\w'\-?])")
+
+
+def respell_fields(text):
+    """The text, but for its strings, with the names of FIELDS in snake case."""
+    parts = STRING.split(text)
+    return "".join(p if i % 2 else FIELD.sub(lambda m: FIELDS_APART.get(m.group(1), m.group(1).replace("-", "_")), p) for i, p in enumerate(parts))
+
+
 def target(path, text):
     """The file that an edit is of."""
     m = re.search(r"^file: *(\S+)", text, re.M)
@@ -146,7 +173,9 @@ def target(path, text):
 
 
 def main(argv):
-    root = argv[0] if argv else "."
+    last = argv[:1] == ["--fields"]
+    root = (argv[1:] if last else argv)[:1] or ["."]
+    root = root[0]
     files = []
     for form in ("crates/*/specs/**/*.antt", "crates/*/proofs/**/*.antt", "crates/*/src/**/*.rt", "crates/*/must-fail/*.edit"):
         files += glob.glob(os.path.join(root, form), recursive=True)
@@ -158,7 +187,7 @@ def main(argv):
     for path in sorted(files):
         old = texts[path]
         of = target(path, old) if path.endswith(".edit") else path
-        new = respell(of, old, texts.get(of, old))
+        new = respell_fields(old if last else respell(of, old, texts.get(of, old)))
         if new != old:
             with open(path, "w", encoding="utf-8") as f:
                 f.write(new)

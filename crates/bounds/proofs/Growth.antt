@@ -12,11 +12,11 @@ use Rattle.semantics.specs.Ty.{t_any, t_null, t_unknown, Ty, base, t_list, t_map
 use Rattle.semantics.specs.Unify.{Answer, agreed, mismatch, unify}
 use Rattle.semantics.specs.Builtins.{ArgShape, Builtin, builtin_id, builtin_size, builtin_head, builtin_tail, builtin_last, builtin_keys, builtin_values, signature, lookup, accepts}
 use Rattle.semantics.specs.Sheet.{Head, num, Role, plain, condition, answer, inner, Typing, constant, var_type, element, slice, listing, mapping, calling, operator, unary, casing, membership, comprehension, Rule, silent, entering, typed, rank, place, rule, roles, arity, Want, fits, deeper, wanted, under}
-use Rattle.semantics.specs.Walk.{Fault, Res, Env, Need, a_number, a_string, a_bool, meets as met?, require, Op, arithmetic, comparison, equality, boolean, string, concat, op, op_faults, unary_faults, is_open, apart, in_faults, arg_faults, call_faults, tys, nth, asked, spread, own_by, own, named, step, walk}
+use Rattle.semantics.specs.Walk.{Fault, Res, Env, Need, a_number, a_string, a_bool, meets as is_met, require, Op, arithmetic, comparison, equality, boolean, string, concat, op, op_faults, unary_faults, is_open, apart, in_faults, arg_faults, call_faults, tys, nth, asked, spread, own_by, own, named, step, walk}
 use Rattle.semantics.proofs.All.{either}
 use Rattle.report.specs.Report.{faults_text}
 use Rattle.report.proofs.ReportLaws.{faults-short}
-use Rattle.hir.specs.Lines.{Met, all-met, meets}
+use Rattle.hir.specs.Lines.{Met, all_met, meets}
 use Rattle.hir.proofs.LinesLaws.{Inner, AllIn, none_in, one_in, inner-under}
 use Rattle.walk_run.specs.Depth.{Pairs, no_pairs, pairing}
 use Rattle.walk_run.proofs.LevelsWalk.{pairs-take, pairs-drop}
@@ -30,7 +30,7 @@ Few m fs = length fs ≤ m
 
 require-few : (k : Need) (t : Ty) → Few 1 (require k t)
 unfolding require
-require-few k t = either (Few 1) (met? k t) (omega arith) (omega arith)
+require-few k t = either (Few 1) (is_met k t) (omega arith) (omega arith)
 
 both-few : (k : Need) (a b : Ty) → Few 2 (require k a ++ require k b)
 both-few k a b = omega (arith, require-few k a, require-few k b, length-append (require k a) (require k b))
@@ -168,7 +168,7 @@ under-many w h i f = ap length (inner-under w h i f).0 ∙ length-map (roles h) 
 
 pub met-sizes : {ws : List Want} {hs ks : List Head} → AllIn ws → Met ws hs ks → total (take (length ws) (sizes hs)) + length ks ≡ length hs
 unfolding total sizes
-met-sizes i all-met = omega arith
+met-sizes i all_met = omega arith
 met-sizes {ks = ks} (one_in i is) (meets {w = w} {ws = ws} {h = h} {hs = hs} f g m) =
     let r = met-sizes (all_in (inner-under w h i f).1 is) m in
     let l : length (under w h ++ ws) ≡ arity h + length ws = omega (arith, length-append (under w h) ws, under-many w h i f) in

@@ -4,14 +4,14 @@ use mathlib.Core.List.{List, [], ◌∷◌, ◌++◌, map}
 use mathlib.Core.Bool.{Bool, true, false, cond, ◌&&◌}
 use Prim.Native.Nat.{ℕ, suc, zero, ◌+◌, ◌-◌, ◌≤◌, ◌<◌}
 use native.Mathlib.Omega.{arith}
-use lib.Dec.{eqb, ltb}
+use lib.Dec.{eqb}
 use lib.ListN.{length, get_or, take, drop, length-append}
-use borrow.Author.Tests.{eqb-true, eqb-false, ltb-false}
+use borrow.Author.Tests.{eqb-true, eqb-false}
 use Rattle.semantics.specs.Sheet.{Word, Rule, silent, entering, typed, Place, expression_place, Role, plain, condition, answer, inner, Head, rank, place, row, rule, roles, arity, bad, ok, Want, first, clauses, bindings, at, fits, beyond, deeper, wanted, under}
 use Rattle.semantics.specs.Walk.{Env, step, walk}
 use Rattle.semantics.proofs.Words.{every}
 use Rattle.semantics.proofs.All.{All, empty, also}
-use Rattle.hir.specs.Lines.{Met, all-met, meets}
+use Rattle.hir.specs.Lines.{Met, all_met, meets}
 use Rattle.hir.proofs.LinesLaws.{Inner, AllIn, none_in, one_in, inner-under}
 use Rattle.walk_run.specs.Depth.{levels, greatest, rise, height, Pairs, no_pairs, pairing}
 use Rattle.walk_run.proofs.LevelsWalk.{pairs-take, greatest-low, step-levels, walk-levels}
@@ -124,7 +124,7 @@ line-within (at q e) h k i f g l = own-height q e h k f g l
 -- each tree stands at most as high as its want allows
 pub met-height : {ws : List Want} {hs ks : List Head} → AllIn ws → Met ws hs ks → Pairs Within ws (take (length ws) (height hs))
 unfolding height
-met-height i all-met = no_pairs
+met-height i all_met = no_pairs
 met-height (one_in i is) (meets {w = w} {ws = ws} {h = h} {hs = hs} f g m) =
     let r = met-height (all_in (inner-under w h i f).1 is) m in
     pairing (line-within w h (greatest (take (arity h) (height hs))) i f g (under-height w ws h (height hs) i f r)) (beside-height w ws h (height hs) i f r)

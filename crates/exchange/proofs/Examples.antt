@@ -30,20 +30,20 @@ is_free (some t) = union_free t
 
 -- two texts of which the claim speaks, and what the call settles in each order
 record Both (a b : Bytes) (one other : Settled) : Type 0 where
-  first-free : is_free (type_line a) ≡ true
-  second-free : is_free (type_line b) ≡ true
+  first_free : is_free (type_line a) ≡ true
+  second_free : is_free (type_line b) ≡ true
   there : unify_call a b work out ≡ one
   back : unify_call b a work out ≡ other
 
 -- the same line
 same_line : Both (text "J,K,61,D,62,B,!,") (text "J,K,61,E,63,C,!,") (answered (text "J,K,61,F,62,B,63,C,!,") work out) (answered (text "J,K,61,F,62,B,63,C,!,") work out)
 unfolding run_unify union_free
-same_line = record { first-free = refl; second-free = refl; there = refl; back = refl }
+same_line = record { first_free = refl; second_free = refl; there = refl; back = refl }
 
 -- the answer may hold a union
 with-null : Both (text "J,B,") (text "J,D,") (answered (text "J,O,B,D,!,") work out) (answered (text "J,O,B,D,!,") work out)
 unfolding run_unify union_free
-with-null = record { first-free = refl; second-free = refl; there = refl; back = refl }
+with-null = record { first_free = refl; second_free = refl; there = refl; back = refl }
 
 -- 6 both times: two entries with names of 255 bytes make 1,030 bytes
 abbrev entry : ℕ → Bytes
@@ -51,12 +51,12 @@ entry digit = text "K," ++ (replicate 510 digit ++ text ",D,!,")
 
 large-both : Both (entry 54) (entry 55) (cleared 6 0 work out) (cleared 6 0 work out)
 unfolding run_unify union_free
-large-both = record { first-free = refl; second-free = refl; there = refl; back = refl }
+large-both = record { first_free = refl; second_free = refl; there = refl; back = refl }
 
 -- 9 with expected and actual exchanged
 parted-both : Both (text "K,61,D,!,") (text "K,61,L,+,62,!,!,") (parted (text "D,") (text "L,+,62,!,") work out) (parted (text "L,+,62,!,") (text "D,") work out)
 unfolding run_unify union_free
-parted-both = record { first-free = refl; second-free = refl; there = refl; back = refl }
+parted-both = record { first_free = refl; second_free = refl; there = refl; back = refl }
 
 -- the lengths and the front of the output that this is
 parted-numbers : ((parted (text "D,") (text "L,+,62,!,") work out).first ≡ 2) × ((parted (text "D,") (text "L,+,62,!,") work out).second ≡ 9) × (take 11 (parted (text "D,") (text "L,+,62,!,") work out).out ≡ text "D,L,+,62,!,")

@@ -11,7 +11,7 @@ use lib.ListN.{length, get_or}
 use borrow.Author.Tests.{eqb-true, eq-eqb, ne_eqb, le-ltb, leb-true}
 use Rattle.semantics.specs.Bytes.{Bytes}
 use Rattle.semantics.specs.Sheet.{kids, Word, cyrs_word, case_word, Head, parts_place, Role, plain, condition, answer, inner, present, arm_roles, row, roles, arity}
-use Rattle.semantics.proofs.All.{all-at}
+use Rattle.semantics.proofs.All.{all_at}
 use Rattle.semantics.proofs.Words.{every, every-where, holds, named, each, kids-each}
 use Rattle.line.specs.Arrays.{slots, slots_of}
 use Rattle.line.specs.Rows.{word_no, numbered}
@@ -89,7 +89,7 @@ unfolding asking quiet_role each row word_no role_no
 others v ns n m j =
     let no : asking (word_no v) ≡ false = rw (ne_eqb (word_no v) 44 n, ne_eqb (word_no v) 48 (λ e. m (inl e)), ne_eqb (word_no v) 49 (λ e. m (inr e))) in
     let t : cond (asking (word_no v)) true (each quiet_role (named (row v).under)) ≡ true = holds (λ (v : Word). cond (asking (word_no v)) true (each quiet_role (named (row v).under))) refl v in
-    all-at {P = λ (p : Role). role_no p ≡ 0} plain refl (kids-each quiet_role (λ p e. eqb-true (role_no p) 0 e) (row v).under (ap (λ (b : Bool). cond b true (each quiet_role (named (row v).under))) (sym no) ∙ t) ns) j
+    all_at {P = λ (p : Role). role_no p ≡ 0} plain refl (kids-each quiet_role (λ p e. eqb-true (role_no p) 0 e) (row v).under (ap (λ (b : Bool). cond b true (each quiet_role (named (row v).under))) (sym no) ∙ t) ns) j
 
 module _ (s : Bytes) (h : Seen) (hd : Head) (i : HeadIs s h hd) (j : ℕ) where
   -- any other word

@@ -61,8 +61,8 @@ module _ {a b : Ty} {s : Bytes} {st : Accumulator} (k : KeptAt (both a b) s st) 
   pair_inside : st.len + st.second ≤ length s
   pair_inside = omega (arith, pair-len, pair-second, length-append (line a) (line b), front-inside (line a ++ line b) s pair-front)
 
-  pub first-at : TypeAt s 0 st.len a
-  first-at =
+  pub first_at : TypeAt s 0 st.len a
+  first_at =
       line_at a pair-len
       (sym (take-take (length (line a)) (length (line a ++ line b)) s (omega (arith, length-append (line a) (line b))))
       ∙ ap (take (length (line a))) pair-front

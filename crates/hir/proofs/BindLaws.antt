@@ -19,7 +19,7 @@ use Rattle.line.specs.Known.{BindingAt, BoundAs}
 use Rattle.line.specs.declared.known.Bound.{Bound}
 use Rattle.line.proofs.LineLaws.{split-some}
 use Rattle.line.proofs.KnownLaws.{same_place}
-use Rattle.hir.specs.Lines.{LineAt, Lines, no_line, a-line, Met, meets, Ascends, no-binding, ascends}
+use Rattle.hir.specs.Lines.{LineAt, Lines, no_line, a_line, Met, meets, Ascends, no_binding, ascends}
 use Rattle.hir.specs.Bind.{kind_of, BindsAt, StartAs}
 use Rattle.hir.proofs.LinesLaws.{next-line, front-some, bind-var}
 
@@ -101,7 +101,7 @@ start-later {s} {lo} {q} {h} a mid r b m = record { from = go (dec_lt r q); upto
 
 pub among : {s : Bytes} {lo hi : ℕ} {hs : List Head} → Lines s lo hs hi → (mid r : ℕ) → StartAs s lo mid r → mid < hi → Among s lo hs hi r mid
 among {lo = lo} no_line mid r b m = absurd (omega (arith, b.from, b.upto))
-among {s = s} {lo = lo} {hi = hi} (a-line {q = q} {h = h} {hs = hs} a x) mid r b m =
+among {s = s} {lo = lo} {hi = hi} (a_line {q = q} {h = h} {hs = hs} a x) mid r b m =
     go (λ c. among x mid r c m) (dec_lt mid q)
   where
     go : (StartAs s q mid r → Among s q hs hi r mid) → Dec (mid < q) → Among s lo (h ∷ hs) hi r mid
@@ -110,24 +110,24 @@ among {s = s} {lo = lo} {hi = hi} (a-line {q = q} {h = h} {hs = hs} a x) mid r b
         record { left = []; head = h; right = hs; end = q; same = refl; before = rw e no_line; line = rw e a; after = x; past = l }
     go ih (no l) =
         let y = ih (start-later a mid r b (omega arith)) in
-        record { left = h ∷ y.left; head = y.head; right = y.right; end = y.end; same = ap (λ (z : List Head). h ∷ z) y.same; before = a-line a y.before; line = y.line; after = y.after; past = y.past }
+        record { left = h ∷ y.left; head = y.head; right = y.right; end = y.end; same = ap (λ (z : List Head). h ∷ z) y.same; before = a_line a y.before; line = y.line; after = y.after; past = y.past }
 
 -- ## Kinds
 
 ascends-up : {v w : ℕ} {hs : List Head} → Ascends v hs w → v ≤ w
-ascends-up no-binding = omega arith
+ascends-up no_binding = omega arith
 ascends-up (ascends o l x) = omega (arith, ascends-up x)
 
 -- smaller variables first
 kind-past : {u w : ℕ} {hs : List Head} → Ascends u hs w → (v : ℕ) (ks : List Head) → w ≤ v → kind_of v (hs ++ ks) ≡ kind_of v ks
 unfolding kind_of
-kind-past no-binding v ks l = refl
+kind-past no_binding v ks l = refl
 kind-past (ascends {h = h} o g x) v ks l = rw (ne_eqb v (variable_of h) (λ e. omega (arith, ascends-up x)), kind_of) (kind-past x v ks l)
 
 -- greater ones only
 kind-none : {u w : ℕ} {hs : List Head} → Ascends u hs w → (v : ℕ) → v < u → kind_of v hs ≡ 3
 unfolding kind_of
-kind-none no-binding v l = refl
+kind-none no_binding v l = refl
 kind-none (ascends {h = h} o g x) v l = rw (ne_eqb v (variable_of h) (λ e. omega arith), kind_of) (kind-none x v (omega arith))
 
 kind-left : (hs ks : List Head) (v : ℕ) → kind_of v ks ≡ 3 → kind_of v (hs ++ ks) ≡ kind_of v hs
@@ -156,12 +156,12 @@ pub record Parts (u : ℕ) (left : List Head) (h : Head) (right : List Head) (w 
   pub later : Ascends (suc (variable_of h)) right w
 
 parts : {u w : ℕ} {hs : List Head} → Ascends u hs w → (left : List Head) (h : Head) (right : List Head) → hs ≡ left ++ (h ∷ right) → Parts u left h right w
-parts no-binding [] h right e = absurd (let z : ◌≡◌ {A = ℕ} 0 1 = cc in omega arith)
-parts no-binding (x ∷ left) h right e = absurd (let z : ◌≡◌ {A = ℕ} 0 1 = cc in omega arith)
+parts no_binding [] h right e = absurd (let z : ◌≡◌ {A = ℕ} 0 1 = cc in omega arith)
+parts no_binding (x ∷ left) h right e = absurd (let z : ◌≡◌ {A = ℕ} 0 1 = cc in omega arith)
 parts {u = u} {w = w} (ascends {h = k} {hs = ks} o l x) [] h right e =
     let kh : k ≡ h = cc in
     let r : ks ≡ right = cc in
-    record { mid = u; first = no-binding; is = rw (← kh) o; upto = rw (← kh) l; later = rw (← kh, ← r) x }
+    record { mid = u; first = no_binding; is = rw (← kh) o; upto = rw (← kh) l; later = rw (← kh, ← r) x }
 parts {u = u} {w = w} (ascends {h = k} {hs = ks} o l x) (y ∷ left) h right e =
     let ky : k ≡ y = cc in
     let p = parts x left h right cc in
@@ -169,12 +169,12 @@ parts {u = u} {w = w} (ascends {h = k} {hs = ks} o l x) (y ∷ left) h right e =
 
 lines-up : {s : Bytes} {p q : ℕ} {hs : List Head} → Lines s p hs q → p ≤ q
 lines-up no_line = omega arith
-lines-up (a-line a x) = omega (arith, a.on, lines-up x)
+lines-up (a_line a x) = omega (arith, a.on, lines-up x)
 
 no_lines : {s : Bytes} {p q : ℕ} {hs : List Head} → Lines s p hs q → q ≤ p → (v : ℕ) → kind_of v hs ≡ 3
 unfolding kind_of
 no_lines no_line l v = refl
-no_lines (a-line a x) l v = absurd (omega (arith, a.on, lines-up x))
+no_lines (a_line a x) l v = absurd (omega (arith, a.on, lines-up x))
 
 -- ## The search
 
@@ -299,8 +299,8 @@ type-step h hs v u bs e ih = go (eqb v u) ∙ ap (λ (y : ℕ). kind_type (elim 
 bound-binds : {s : Bytes} {p q u w : ℕ} {hs : List Head} → Lines s p hs q → Ascends u hs w → (rest : List Head) → bound rest ≡ [] → (v : ℕ)
     → var_type_in v (bound (hs ++ rest)) ≡ kind_type (kind_of v hs)
 unfolding var_type_in kind_of
-bound-binds no_line no-binding rest e v = rw e
-bound-binds {s = s} {p = p} (a-line {q = q} {h = h} {hs = hs} a x) (ascends o l y) rest e v =
+bound-binds no_line no_binding rest e v = rw e
+bound-binds {s = s} {p = p} (a_line {q = q} {h = h} {hs = hs} a x) (ascends o l y) rest e v =
     let b = bind-var s p q h a o in
     ap (var_type_in v) (bound-one h (hs ++ rest) b.0 o b.1) ∙ type-step h hs v b.0 (bound (hs ++ rest)) (var-some h b.0 b.1) (bound-binds x y rest e v)
 

@@ -363,19 +363,19 @@ module _ (s : Bytes) (h : Seen) (line depth : ℕ) (ask : KidsAsk s h line depth
         depth_is : dep ≡ pick_c (eqb c 13) (depth - 1) depth
         depth_is = ed
 
-        abbrev kid-run : Run
-        kid-run = run (kid_wants k.word k.count k.flag dep) m (split 10 (drop k.next s))
+        abbrev kid_run : Run
+        kid_run = run (kid_wants k.word k.count k.flag dep) m (split 10 (drop k.next s))
 
-        kid-as : kid-run ≡ run (kid_wants k.word k.count k.flag (pick_c (eqb c 13) (depth - 1) depth)) (suc l) (split 10 (drop k.next s))
+        kid-as : kid_run ≡ run (kid_wants k.word k.count k.flag (pick_c (eqb c 13) (depth - 1) depth)) (suc l) (split 10 (drop k.next s))
         kid-as = rw (depth_is, em ∙ add-one l)
 
-        pub step-refused : (x : Check) → ChecksAs s k.next x kid-run → (why : ℕ) (o : HirId) → x ≡ Refused why o → whole_run ≡ stopped why o.0
+        pub step-refused : (x : Check) → ChecksAs s k.next x kid_run → (why : ℕ) (o : HirId) → x ≡ Refused why o → whole_run ≡ stopped why o.0
         step-refused x f why o e =
-            let g : kid-run ≡ stopped why o.0 = rw e at f in
+            let g : kid_run ≡ stopped why o.0 = rw e at f in
             runs_as ∙ kids-refused s ks depth depth n h.next line p l j inv more whole c ec k r un.small go why o.0 (sym kid-as ∙ g)
 
-        pub step-on : (x : Check) → ChecksAs s k.next x kid-run → (next : ℕ) (o : HirId) → x ≡ Fine next o
+        pub step-on : (x : Check) → ChecksAs s k.next x kid_run → (next : ℕ) (o : HirId) → x ≡ Fine next o
             → KidsInv s ks depth n h.next line next o.0 (j + 1)
         step-on x f next o e =
-            let g : FineAs s k.next next o.0 kid-run = rw e at f in
+            let g : FineAs s k.next next o.0 kid_run = rw e at f in
             kids-on s ks depth depth n h.next line p l j inv more whole c ec k r un.small go next o.0 (rw kid-as at g)

@@ -20,11 +20,11 @@ use Rattle.line.specs.declared.line.Head.{Head as Seen}
 use Rattle.line.proofs.ReadLaws.{placed-line, fill-word}
 use Rattle.line.proofs.LineLaws.{split-some}
 use Rattle.line.proofs.KnownLaws.{same_place, bind-fields}
-use Rattle.line.proofs.FillLaws.{Says, says, faulty, a-letter, a-variable, value-at}
+use Rattle.line.proofs.FillLaws.{Says, says, faulty, a_letter, a_variable, value-at}
 use Rattle.hir.specs.Run.{Run, stopped, passed, before, carry_on, at_end, run, add_all, finish}
 use Rattle.hir.proofs.RunLaws.{check-run}
 use Rattle.hir.proofs.CheckLaws.{after_none}
-use Rattle.hir.specs.Lines.{LineAt, Lines, no_line, a-line, Met, all-met, meets}
+use Rattle.hir.specs.Lines.{LineAt, Lines, no_line, a_line, Met, all_met, meets}
 
 -- ## Where the next line starts
 
@@ -155,7 +155,7 @@ here s p n ls hs m ms i d e =
     let z : [] ≡ hs = cc in
     let nm : n ≡ m = cc in
     let lm : ls ≡ ms = cc in
-    rw (← z) (record { end = p; lines = no_line; left = d ∙ lm; inside = i; met = all-met; count = omega (arith, nm) })
+    rw (← z) (record { end = p; lines = no_line; left = d ∙ lm; inside = i; met = all_met; count = omega (arith, nm) })
 
 pub passed_lines : (ls : List Bytes) (s : Bytes) (p : ℕ) (ws : List Want) (n : ℕ) (hs : List Head) (m : ℕ) (ms : List Bytes)
     → p ≤ length s → split 10 (drop p s) ≡ ls → run ws n ls ≡ passed hs m ms → Passed s p ws n hs m ms
@@ -178,7 +178,7 @@ passed_lines (l ∷ l' ∷ ls) s p (w ∷ ws) n hs m ms i d e =
         let x = ih q.0 h b.0 q.3 q.1 b.2 in
         let t = read_told w l h f in
         let a : LineAt s p h q.0 = record { text = l; stands = d ∙ ap (λ (y : List Bytes). l ∷ y) (sym q.1); says = t.says; on = q.2; inside = q.3 } in
-        rw b.1 (record { end = x.end; lines = a-line a x.lines; left = x.left; inside = x.inside; met = meets t.fits t.beyond x.met; count = omega (arith, x.count) })
+        rw b.1 (record { end = x.end; lines = a_line a x.lines; left = x.left; inside = x.inside; met = meets t.fits t.beyond x.met; count = omega (arith, x.count) })
 
 -- ## The whole sheet
 
@@ -237,9 +237,9 @@ met-head : {w x : Want} {a : List Want} {hs ks : List Head} → w ≡ x → Met 
 met-head {a = a} {hs = hs} {ks = ks} e m = subst (λ (y : Want). Met (y ∷ a) hs ks) e m
 
 met-parts : {ws : List Want} {hs ks : List Head} → Met ws hs ks → (a b : List Want) → ws ≡ a ++ b → (js : List Head) × Met a hs js × Met b js ks
-met-parts {hs = hs} all-met [] b e = (hs, all-met, rw (← e) all-met)
-met-parts all-met (x ∷ a) b e = absurd (let z : ◌≡◌ {A = ℕ} 0 1 = cc in omega arith)
-met-parts {hs = is} (meets f g m) [] b e = (is, all-met, rw (← e) (meets f g m))
+met-parts {hs = hs} all_met [] b e = (hs, all_met, rw (← e) all_met)
+met-parts all_met (x ∷ a) b e = absurd (let z : ◌≡◌ {A = ℕ} 0 1 = cc in omega arith)
+met-parts {hs = is} (meets f g m) [] b e = (is, all_met, rw (← e) (meets f g m))
 met-parts (meets {w = w} {ws = ws} {h = h} f g m) (x ∷ a) b e =
     let wx : w ≡ x = cc in
     let r : ws ≡ a ++ b = cc in
@@ -312,7 +312,7 @@ length-map' f (p ∷ ps) = ap suc (length-map' f ps)
 pub met-walk : {ws : List Want} {hs ks : List Head} → AllIn ws → Met ws hs ks → (env : Env) (n : ℕ)
     → (m : ℕ) × (length hs ≡ m + length ks) × (drop (length ws) (walk env n hs) ≡ walk env (n + m) ks)
 unfolding walk arity
-met-walk {hs = hs} i all-met env n = let z : n ≡ n + 0 = omega arith in (0, omega arith, ap (λ (x : ℕ). walk env x hs) z)
+met-walk {hs = hs} i all_met env n = let z : n ≡ n + 0 = omega arith in (0, omega arith, ap (λ (x : ℕ). walk env x hs) z)
 met-walk {ks = ks} (one_in i is) (meets {w = w} {ws = ws} {h = h} {hs = hs} f g m) env n =
     let u = inner-under w h i f in
     let r = met-walk (all_in u.1 is) m env (suc n) in
@@ -329,8 +329,8 @@ letter-var k h (x ∷ xs) e = go (value letter k.nums x) (rw (value-at letter k.
   where
     go : (v : Value) → Says letter x v → (xs : List Bytes) → into k v (λ i. fill i [] xs) ≡ ok h → h.var ≡ k.var
     go (wrong c) (faulty p) xs d = absurd (no_ok c h d)
-    go (number n) (a-letter p) [] d = let q : record { word = k.word; var = k.var; nums = k.nums ++ (n ∷ []); name = k.name } ≡ h = cc in ap (λ (y : Head). y.var) (sym q)
-    go (number n) (a-letter p) (y ∷ ys) d = absurd (no_ok 3 h d)
+    go (number n) (a_letter p) [] d = let q : record { word = k.word; var = k.var; nums = k.nums ++ (n ∷ []); name = k.name } ≡ h = cc in ap (λ (y : Head). y.var) (sym q)
+    go (number n) (a_letter p) (y ∷ ys) d = absurd (no_ok 3 h d)
     go (variable_v _) x5 xs d = elim x5 [ ]
     go (Rattle.semantics.specs.Sheet.name_v _) x6 xs d = elim x6 [ ]
     go (Rattle.semantics.specs.Sheet.alias_v _) x7 xs d = elim x7 [ ]
@@ -342,7 +342,7 @@ variable-var k h (x ∷ xs) e = go (value variable k.nums x) (rw (value-at varia
   where
     go : (v : Value) → Says variable x v → into k v (λ i. fill i (letter ∷ []) xs) ≡ ok h → (u : ℕ) × (h.var ≡ some u)
     go (wrong c) (faulty p) d = absurd (no_ok c h d)
-    go (variable_v (some u)) (a-variable p) d = (u, letter-var _ h xs d)
+    go (variable_v (some u)) (a_variable p) d = (u, letter-var _ h xs d)
     go (number _) x5 d = elim x5 [ ]
     go (variable_v none) x7 d = elim x7 [ ]
     go (Rattle.semantics.specs.Sheet.name_v _) x7 d = elim x7 [ ]

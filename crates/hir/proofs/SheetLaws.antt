@@ -15,7 +15,7 @@ use Rattle.line.specs.Line.{ReadAs}
 use Rattle.line.specs.declared.line.Head.{Head as Seen}
 use Rattle.line.specs.declared.line.HirId.{HirId}
 use Rattle.hir.specs.Run.{stopped, before, run, add_all, finish}
-use Rattle.hir.specs.Check.{verdict_of, TopAsk, BoundAs, BindsAs, ClausesAs, RestAs, rest-refused, rest-laid, OutlineAs, is-refused, is-laid}
+use Rattle.hir.specs.Check.{verdict_of, TopAsk, BoundAs, BindsAs, ClausesAs, RestAs, rest_refused, rest_laid, OutlineAs, is_refused, is_laid}
 use Rattle.hir.specs.declared.valid.Check.{Check}
 use Rattle.hir.specs.declared.valid.Check.TheVariants.{Fine, Refused}
 use Rattle.hir.specs.declared.valid.Outline.{Outline}
@@ -37,7 +37,7 @@ module _ (depth : ℕ) (s : Bytes) (from : ℕ) where
   unfolding finish
   rest-binds x b why o e r ew el =
       let g : run (bindings 0 depth ∷ []) 2 (split 10 (drop from s)) ≡ stopped why o.0 = (rw e at b) depth in
-      rest-refused (Q-run ∙ ap finish g ∙ rw (ew, el))
+      rest_refused (Q-run ∙ ap finish g ∙ rw (ew, el))
 
   module _ (x : Check) (b : BindsAs s from 2 x) (next : ℕ) (o : HirId) (e : x ≡ Fine next o) where
     bound : BoundAs s from 2 next o.0
@@ -52,7 +52,7 @@ module _ (depth : ℕ) (s : Bytes) (from : ℕ) where
     pub rest-clauses : (y : Check) → ClausesAs depth s next o.0 y → (why : ℕ) (u : HirId) → y ≡ Refused why u → (r : Outline) → r.why ≡ why → r.line ≡ u → RestAs depth s from r Q
     rest-clauses y c why u f r ew el =
         let g : check (clauses depth ∷ []) o.0 (split 10 (drop next s)) ≡ refused why u.0 = rw f at c in
-        rest-refused (Q-is ∙ ap (add_all bound.heads) g ∙ add-refused bound.heads why u.0 ∙ rw (ew, el))
+        rest_refused (Q-is ∙ ap (add_all bound.heads) g ∙ add-refused bound.heads why u.0 ∙ rw (ew, el))
 
     pub rest-fine : (y : Check) → ClausesAs depth s next o.0 y → (n : ℕ) (u : HirId) → y ≡ Fine n u → RestAs depth s from (record { why = 0; line = o; from = from; to = next }) Q
     unfolding split
@@ -62,7 +62,7 @@ module _ (depth : ℕ) (s : Bytes) (from : ℕ) where
         let p = passed_lines (split 10 (drop next s)) s next (clauses depth ∷ []) o.0 g.0 h.0 ([] ∷ []) bound.inside refl h.1 in
         let z : drop p.end s ≡ [] = split-inj 10 (drop p.end s) [] p.left in
         let q : p.end ≡ length s = omega (arith, p.inside, length-drop p.end s, ap length z) in
-        rest-laid refl
+        rest_laid refl
         (record {
           start = refl;
           binds = bound.heads;
@@ -92,7 +92,7 @@ module _ (s : Bytes) (k : Seen) (r : ReadAs s 0 k (split 10 (drop 0 s))) (depth 
   stop-as w e = sheet-run ∙ ap finish e
 
   pub first-stop : (y ≡ 0 → ⊥) → (x : Outline) → x.why ≡ y → x.line ≡ record { 0 = 1 } → OutlineAs depth s x
-  first-stop ne x ew el = is-refused (omega arith) (by (eqb (class_of k) 0) (eqb k.why 0) refl refl ∙ rw (ew, el))
+  first-stop ne x ew el = is_refused (omega arith) (by (eqb (class_of k) 0) (eqb k.why 0) refl refl ∙ rw (ew, el))
     where
       by : (b t : Bool) → eqb (class_of k) 0 ≡ b → eqb k.why 0 ≡ t → sheet depth s ≡ refused y 1
       by false t eb et = stop-as y (line-unfit s 0 k (first depth) [] 1 (split 10 s) r (fits-first false eb) ∙ ap (λ (w : ℕ). stopped w 1) (sym (ey ∙ rw eb)))
@@ -137,15 +137,15 @@ module _ (s : Bytes) (k : Seen) (r : ReadAs s 0 k (split 10 (drop 0 s))) (depth 
 
     pub first_on : (x : Outline) → RestAs depth s k.next x (check (bindings 0 depth ∷ []) 2 (split 10 (drop k.next s))) → OutlineAs depth s x
     unfolding add
-    first_on x (rest-refused e) =
+    first_on x (rest_refused e) =
         let d : sheet depth s ≡ refused x.why x.line.0 = sheet-is ∙ ap (add fit.head) e in
-        is-refused (cause (sheet depth s) (sheet-fine depth s) x.why x.line.0 d) d
+        is_refused (cause (sheet depth s) (sheet-fine depth s) x.why x.line.0 d) d
       where
         cause : (q : Sheet) → FineSheet q → (c n : ℕ) → q ≡ refused c n → 0 < c
         cause (refused b m) f c n d = let bc : b ≡ c = cc in omega (arith, f.0)
         cause (heads hs) f c n d = absurd (let z : ◌≡◌ {A = ℕ} 0 1 = cc in omega arith)
-    first_on x (rest-laid w l) =
-        is-laid w
+    first_on x (rest_laid w l) =
+        is_laid w
         (record {
           head = fit.head;
           binds = l.binds;

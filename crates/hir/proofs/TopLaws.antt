@@ -19,7 +19,7 @@ use Rattle.line.proofs.ReadLaws.{placed-line}
 use Rattle.line.proofs.LineLaws.{split-some}
 use Rattle.hir.specs.Run.{Run, stopped, passed, before, carry_on, at_end, run, behind, and_go, add_all, finish}
 use Rattle.hir.specs.Kids.{kid_wants}
-use Rattle.hir.specs.Lines.{LineAt, Lines, no_line, a-line, Ascends, no-binding, ascends}
+use Rattle.hir.specs.Lines.{LineAt, Lines, no_line, a_line, Ascends, no_binding, ascends}
 use Rattle.hir.specs.Check.{pick_e, verdict_of, FineAs, ChecksAs, KidsAsk, TopAsk, BoundAs, end_of, ClausesAs}
 use Rattle.hir.specs.declared.valid.Check.{Check}
 use Rattle.hir.specs.declared.valid.Check.TheVariants.{Fine, Refused}
@@ -71,17 +71,17 @@ fits-other : (levels v q : ℕ) → (q ≡ 1 → ⊥) → fits (bindings v level
 unfolding fits
 fits-other levels v q ne = ap (λ (b : Bool). b && leb q 3) (one-or-two q ne)
 
-abbrev if-fit : Bool → Read → Read
-if-fit b r = elim b [ true ↦ r | false ↦ bad 3 ]
+abbrev if_fit : Bool → Read → Read
+if_fit b r = elim b [ true ↦ r | false ↦ bad 3 ]
 
 placed-other : (levels : ℕ) (s : Bytes) (k : Seen) (v : ℕ) → (class_of k ≡ 1 → ⊥) → (x : Plain) → SaysAs s k x → placed (bindings v levels) x ≡ placed (clauses levels) x
 unfolding placed
 placed-other levels s k v ne unknown y = refl
-placed-other levels s k v ne (known u (bad c)) y = ap (λ (b : Bool). if-fit b (bad c)) (fits-other levels v (rank (row u).place) (λ d. ne (class-word k u y.0 ∙ d)))
+placed-other levels s k v ne (known u (bad c)) y = ap (λ (b : Bool). if_fit b (bad c)) (fits-other levels v (rank (row u).place) (λ d. ne (class-word k u y.0 ∙ d)))
 placed-other levels s k v ne (known u (ok h)) y =
     let e : k.word ≡ word_no u = y.1.word ∙ ap word_no (sym y.0) in
-    ap (λ (b : Bool). if-fit b (beyond (bindings v levels) h)) (fits-other levels v (rank (row u).place) (λ d. ne (class-word k u e ∙ d)))
-    ∙ ap (if-fit (fits (clauses levels) (rank (row u).place))) (beyond-other levels v h (λ d. ne (class-is s k h y.1 ∙ d)))
+    ap (λ (b : Bool). if_fit b (beyond (bindings v levels) h)) (fits-other levels v (rank (row u).place) (λ d. ne (class-word k u e ∙ d)))
+    ∙ ap (if_fit (fits (clauses levels) (rank (row u).place))) (beyond-other levels v h (λ d. ne (class-is s k h y.1 ∙ d)))
 
 module _ (levels : ℕ) (s : Bytes) (p : ℕ) (k : Seen) (n v : ℕ) (ls : List Bytes) (r : ReadAs s p k ls) where
   -- no binding: a clause, or the end
@@ -142,11 +142,11 @@ line-head {h = h} {k = k} a b =
     cc
 
 lines_snoc : {s : Bytes} {p q r : ℕ} {hs : List Head} {h : Head} → Lines s p hs q → LineAt s q h r → Lines s p (hs ++ (h ∷ [])) r
-lines_snoc no_line a = a-line a no_line
-lines_snoc (a-line b x) a = a-line b (lines_snoc x a)
+lines_snoc no_line a = a_line a no_line
+lines_snoc (a_line b x) a = a_line b (lines_snoc x a)
 
 ascends-snoc : {v w : ℕ} {hs : List Head} → Ascends v hs w → (h : Head) → rank (place h) ≡ 1 → w ≤ variable_of h → Ascends v (hs ++ (h ∷ [])) (suc (variable_of h))
-ascends-snoc no-binding h o l = ascends o l no-binding
+ascends-snoc no_binding h o l = ascends o l no_binding
 ascends-snoc (ascends a b x) h o l = ascends a b (ascends-snoc x h o l)
 
 ascends-as : {v w u : ℕ} {hs : List Head} → Ascends v hs w → w ≡ u → Ascends v hs u
@@ -165,11 +165,11 @@ pub record BindsInv (s : Bytes) (p₀ l₀ p l v : ℕ) : Type 0 where
 
 pub binds-start : (s : Bytes) (p l : ℕ) → TopAsk s p l → BindsInv s p l p l 0
 binds-start s p l q =
-    record { heads = []; same = λ levels. sym (behind-none (run (bindings 0 levels ∷ []) l (split 10 (drop p s)))); lines = no_line; ascending = no-binding; count = omega arith; room = q.room; inside = q.inside; above = q.above }
+    record { heads = []; same = λ levels. sym (behind-none (run (bindings 0 levels ∷ []) l (split 10 (drop p s)))); lines = no_line; ascending = no_binding; count = omega arith; room = q.room; inside = q.inside; above = q.above }
 
 module _ (s : Bytes) (p₀ l₀ p l v : ℕ) (i : BindsInv s p₀ l₀ p l v) (k : Seen) (r : ReadAs s p k (split 10 (drop p s))) where
-  abbrev all-binds : ℕ → Run
-  all-binds levels = run (bindings 0 levels ∷ []) l₀ (split 10 (drop p₀ s))
+  abbrev all_binds : ℕ → Run
+  all_binds levels = run (bindings 0 levels ∷ []) l₀ (split 10 (drop p₀ s))
 
   pub bound-room : l < 4294967295
   bound-room = omega (arith, i.room, i.inside, i.above)
@@ -177,11 +177,11 @@ module _ (s : Bytes) (p₀ l₀ p l v : ℕ) (i : BindsInv s p₀ l₀ p l v) (k
   pub bound-done : (class_of k ≡ 1 → ⊥) → BoundAs s p₀ l₀ p l
   bound-done ne = record { heads = i.heads; same = λ levels. i.same levels ∙ ap (behind i.heads) (binds-none levels s p k l v (split 10 (drop p s)) r ne); lines = i.lines; top = v; ascending = i.ascending; count = i.count; inside = i.inside; above = i.above }
 
-  pub bound-wrong : class_of k ≡ 1 → (k.why ≡ 0 → ⊥) → (levels : ℕ) → all-binds levels ≡ stopped k.why l
+  pub bound-wrong : class_of k ≡ 1 → (k.why ≡ 0 → ⊥) → (levels : ℕ) → all_binds levels ≡ stopped k.why l
   unfolding behind
   bound-wrong e ne levels = i.same levels ∙ ap (behind i.heads) (binds-wrong levels s p k l v (split 10 (drop p s)) r e ne)
 
-  pub bound-low : class_of k ≡ 1 → k.why ≡ 0 → k.var.0 < v → (levels : ℕ) → all-binds levels ≡ stopped 3 l
+  pub bound-low : class_of k ≡ 1 → k.why ≡ 0 → k.var.0 < v → (levels : ℕ) → all_binds levels ≡ stopped 3 l
   unfolding behind
   bound-low e z h levels = i.same levels ∙ ap (behind i.heads) (binds-low levels s p k l v (split 10 (drop p s)) r e z h)
 
@@ -279,17 +279,17 @@ module _ (depth : ℕ) (s : Bytes) (p₀ l₀ p l : ℕ) (i : ClausesInv depth s
   abbrev ls : List Bytes
   ls = split 10 (drop p s)
 
-  abbrev all-clauses : Sheet
-  all-clauses = check (clauses depth ∷ []) l₀ (split 10 (drop p₀ s))
+  abbrev all_clauses : Sheet
+  all_clauses = check (clauses depth ∷ []) l₀ (split 10 (drop p₀ s))
 
-  by-run : (x : Run) → run (clauses depth ∷ []) l ls ≡ x → all-clauses ≡ add_all i.heads (finish x)
+  by-run : (x : Run) → run (clauses depth ∷ []) l ls ≡ x → all_clauses ≡ add_all i.heads (finish x)
   by-run x e = i.same ∙ ap (add_all i.heads) (check-run ls (clauses depth ∷ []) l ∙ ap finish e)
 
   pub clause-room : l < 4294967295
   clause-room = omega (arith, i.room, i.inside, i.above)
 
   -- refused at this line
-  at-line : (y : ℕ) → run (clauses depth ∷ []) l ls ≡ stopped y l → all-clauses ≡ refused y l
+  at-line : (y : ℕ) → run (clauses depth ∷ []) l ls ≡ stopped y l → all_clauses ≡ refused y l
   unfolding finish
   at-line y e = by-run (stopped y l) e ∙ add-refused i.heads y l
 
@@ -298,7 +298,7 @@ module _ (depth : ℕ) (s : Bytes) (p₀ l₀ p l : ℕ) (i : ClausesInv depth s
   unfolding fits
   fits-end e = rw e
 
-  end-fine : class_of k ≡ 3 → k.why ≡ 0 → (h : Head) × (all-clauses ≡ add_all i.heads (add h (check [] (suc l) (split 10 (drop k.next s))))) × (k.next ≤ length s)
+  end-fine : class_of k ≡ 3 → k.why ≡ 0 → (h : Head) × (all_clauses ≡ add_all i.heads (add h (check [] (suc l) (split 10 (drop k.next s))))) × (k.next ≤ length s)
   unfolding beyond before finish add_all
   end-fine e z =
       let f = line-fit s p k (clauses depth) [] l ls r (fits-end e) z in
@@ -325,10 +325,10 @@ module _ (depth : ℕ) (s : Bytes) (p₀ l₀ p l : ℕ) (i : ClausesInv depth s
 
   -- a clause
   module _ (ne : class_of k ≡ 3 → ⊥) (y : ℕ) (ey : y ≡ verdict_of (class_of k) 2 k.why depth) where
-    pub clause-stop : (y ≡ 0 → ⊥) → all-clauses ≡ refused y l
+    pub clause-stop : (y ≡ 0 → ⊥) → all_clauses ≡ refused y l
     clause-stop h = by (eqb (class_of k) 2) (eqb k.why 0) refl refl
       where
-        by : (b t : Bool) → eqb (class_of k) 2 ≡ b → eqb k.why 0 ≡ t → all-clauses ≡ refused y l
+        by : (b t : Bool) → eqb (class_of k) 2 ≡ b → eqb k.why 0 ≡ t → all_clauses ≡ refused y l
         by false t eb et = at-line y (line-unfit s p k (clauses depth) [] l ls r (fits-clause depth (class_of k) ne false eb) ∙ ap (λ (x : ℕ). stopped x l) (sym (ey ∙ rw eb)))
         by true false eb et = at-line y (line-wrong s p k (clauses depth) [] l ls r (fits-clause depth (class_of k) ne true eb) (eqb-false k.why 0 et) ∙ ap (λ (x : ℕ). stopped x l) (sym (ey ∙ rw (eb, et))))
         by true true eb et = absurd (h (ey ∙ rw (eb, et)))
@@ -351,11 +351,11 @@ module _ (depth : ℕ) (s : Bytes) (p₀ l₀ p l : ℕ) (i : ClausesInv depth s
       fit : Fit s p k (clauses depth) [] l ls
       fit = line-fit s p k (clauses depth) [] l ls r (fits-clause depth (class_of k) ne true (eq-eqb (class_of k) 2 class-two)) why-zero
 
-      abbrev kid-run : ℕ → Run
-      kid-run m = run (kid_wants k.word k.count k.flag depth) m (split 10 (drop k.next s))
+      abbrev kid_run : ℕ → Run
+      kid_run m = run (kid_wants k.word k.count k.flag depth) m (split 10 (drop k.next s))
 
       -- its own lines, and then the clauses that follow
-      into-clause : run (clauses depth ∷ []) l ls ≡ before fit.head (and_go (kid-run (suc l)) (λ m ms. run (clauses depth ∷ []) m ms))
+      into-clause : run (clauses depth ∷ []) l ls ≡ before fit.head (and_go (kid_run (suc l)) (λ m ms. run (clauses depth ∷ []) m ms))
       unfolding beyond under
       into-clause =
           let h = fit.head in
@@ -368,17 +368,17 @@ module _ (depth : ℕ) (s : Bytes) (p₀ l₀ p l : ℕ) (i : ClausesInv depth s
       clause-ask m em = record { room = i.room; head = fit.head; is = fit.is; inside = fit.inside; above = omega (arith, em, i.above, fit.on) }
 
       module _ (m : ℕ) (em : m ≡ l + 1) where
-        run-m : kid-run m ≡ kid-run (suc l)
-        run-m = ap kid-run (em ∙ add-one l)
+        run-m : kid_run m ≡ kid_run (suc l)
+        run-m = ap kid_run (em ∙ add-one l)
 
-        pub clause-refused : (x : Check) → ChecksAs s k.next x (kid-run m) → (why : ℕ) (o : HirId) → x ≡ Refused why o → all-clauses ≡ refused why o.0
+        pub clause-refused : (x : Check) → ChecksAs s k.next x (kid_run m) → (why : ℕ) (o : HirId) → x ≡ Refused why o → all_clauses ≡ refused why o.0
         unfolding and_go before finish
         clause-refused x f why o e =
-            let g : kid-run m ≡ stopped why o.0 = rw e at f in
+            let g : kid_run m ≡ stopped why o.0 = rw e at f in
             by-run (stopped why o.0) (into-clause ∙ ap (λ (w : Run). before fit.head (and_go w (λ m ms. run (clauses depth ∷ []) m ms))) (sym run-m ∙ g)) ∙ add-refused i.heads why o.0
 
-        module _ (x : Check) (f : ChecksAs s k.next x (kid-run m)) (next : ℕ) (o : HirId) (e : x ≡ Fine next o) where
-          got : FineAs s k.next next o.0 (kid-run m)
+        module _ (x : Check) (f : ChecksAs s k.next x (kid_run m)) (next : ℕ) (o : HirId) (e : x ≡ Fine next o) where
+          got : FineAs s k.next next o.0 (kid_run m)
           got = rw e at f
 
           pub clause-less : length s - next < length s - p

@@ -103,8 +103,8 @@ pub record RestLaid (d : ℕ) (s : Bytes) (from : ℕ) (r : Outline) (q : Sheet)
   pub line : r.line.0 ≡ 2 + length binds
 
 pub data RestAs (d : ℕ) (s : Bytes) (from : ℕ) (r : Outline) (q : Sheet) : Type 0 where
-  rest-refused : q ≡ refused r.why r.line.0 → RestAs d s from r q
-  rest-laid : r.why ≡ 0 → RestLaid d s from r q → RestAs d s from r q
+  rest_refused : q ≡ refused r.why r.line.0 → RestAs d s from r q
+  rest_laid : r.why ≡ 0 → RestLaid d s from r q → RestAs d s from r q
 
 -- an accepted sheet: its first line up to `from`, its bindings up to `to`, and from there on its clauses and its end, the first of them
 -- on line `line`
@@ -124,5 +124,5 @@ pub record Laid (d : ℕ) (s : Bytes) (r : Outline) : Type 0 where
 
 -- the sheet, whose expressions may stand d levels deep, is refused for `why` at line `line`; or, with `why` 0, accepted
 pub data OutlineAs (d : ℕ) (s : Bytes) (r : Outline) : Type 0 where
-  is-refused : 0 < r.why → sheet d s ≡ refused r.why r.line.0 → OutlineAs d s r
-  is-laid : r.why ≡ 0 → Laid d s r → OutlineAs d s r
+  is_refused : 0 < r.why → sheet d s ≡ refused r.why r.line.0 → OutlineAs d s r
+  is_laid : r.why ≡ 0 → Laid d s r → OutlineAs d s r

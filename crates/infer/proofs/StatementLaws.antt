@@ -32,7 +32,7 @@ use Rattle.line.proofs.OpeningLaws.{behind-ends}
 use Rattle.line.specs.Known.{FineAt}
 use Rattle.line.specs.declared.line.Head.{Head as Seen}
 use Rattle.line.specs.declared.line.HirId.{HirId}
-use Rattle.hir.specs.Lines.{LineAt, Lines, no_line, a-line}
+use Rattle.hir.specs.Lines.{LineAt, Lines, no_line, a_line}
 use Rattle.line.proofs.KnownLaws.{same_place}
 use Rattle.hir.proofs.LinesLaws.{read_at}
 use Rattle.hir.proofs.PlaceLaws.{class_of, class-is}
@@ -58,7 +58,7 @@ use Rattle.infer.specs.declared.statement.Report.TheVariants.{Made, TooLarge as 
 -- each line has at least one byte
 lines-few : {s : Bytes} {p r : ℕ} {hs : List Head} → Lines s p hs r → p + length hs ≤ r
 lines-few no_line = omega arith
-lines-few (a-line a ls) = omega (arith, a.on, lines-few ls)
+lines-few (a_line a ls) = omega (arith, a.on, lines-few ls)
 
 -- the line at p and those behind it
 record Ahead (s : Bytes) (p : ℕ) (hs : List Head) (r : ℕ) : Type 0 where
@@ -71,7 +71,7 @@ record Ahead (s : Bytes) (p : ℕ) (hs : List Head) (r : ℕ) : Type 0 where
 
 look : {s : Bytes} {p r : ℕ} {hs : List Head} → Lines s p hs r → 0 < length hs → Ahead s p hs r
 look no_line l = absurd (omega arith)
-look (a-line {q = q} {h = h} {hs = hs} a ls) l = record { head = h; tail = hs; next = q; is = refl; line = a; lines = ls }
+look (a_line {q = q} {h = h} {hs = hs} a ls) l = record { head = h; tail = hs; next = q; is = refl; line = a; lines = ls }
 
 -- ## Types
 

@@ -199,7 +199,7 @@ module _ {i r : ℕ} {s : Bytes} {st : Accumulator} {n : ℕ} {x : Bytes} where
   item_in e d = go d.kept z.before z.at z.room
     where
       z : StepAt listing d.role d.kept d.ty d.name s st n x
-      z = rw (typing-at d.typing i 4 d.rule-no e (omega arith)) at d.at
+      z = rw (typing-at d.typing i 4 d.rule_is e (omega arith)) at d.at
 
       go : (k : Kept) → Items k → ChildAt k d.ty s st n → RoomIn k d.ty s (st.len + n) → SomeItem s st n
       go empty g c w = absurd g
@@ -215,7 +215,7 @@ module _ {i r : ℕ} {s : Bytes} {st : Accumulator} {n : ℕ} {x : Bytes} where
   entry_in e d = go d.kept z.before z.at
     where
       z : StepAt mapping d.role d.kept d.ty d.name s st n x
-      z = rw (typing-at d.typing i 5 d.rule-no e (omega arith)) at d.at
+      z = rw (typing-at d.typing i 5 d.rule_is e (omega arith)) at d.at
 
       go : (k : Kept) → Entries k → ChildAt k d.ty s st n → SomeEntry s st n x
       go empty g c = absurd g
@@ -231,7 +231,7 @@ module _ {i r : ℕ} {s : Bytes} {st : Accumulator} {n : ℕ} {x : Bytes} where
   arm_in e d = record { before = d.kept; ty = d.ty; form = z.before; at = z.at }
     where
       z : StepAt casing d.role d.kept d.ty d.name s st n x
-      z = rw (typing-at d.typing i 9 d.rule-no e (omega arith)) at d.at
+      z = rw (typing-at d.typing i 9 d.rule_is e (omega arith)) at d.at
 
 -- ## What a child's type is asked for
 

@@ -186,11 +186,11 @@ via-walked {s} {b} {k} {c} {depth} {work} {work'} {out} {out'} {y} {r} E q W a e
 
 -- the requirements and the answer of a tree that is neither an expression nor an entry
 module _ {s : Bytes} {k : Seen} {c : Cur} {depth : ℕ} {e : Seen} {d : Cur} (E : EntersAs s k c e d) (n : class_of e ≡ 13 → ⊥) where
-  abbrev neither-at : AnyAt s k c depth → PatternAt s c depth
-  neither-at a = record { place = a.place; inside = a.inside; tree = a.tree; passes = not-via a E n }
+  abbrev neither_at : AnyAt s k c depth → PatternAt s c depth
+  neither_at a = record { place = a.place; inside = a.inside; tree = a.tree; passes = not-via a E n }
 
   pub neither-ask : {b : Binds} {work : Bytes} {y : Tally} → AnyAsk s b k c depth work y → PatternAsk s b c depth work y
-  neither-ask x = record { at = neither-at x.at; env = x.env; bound = x.bound; room = x.room; count = x.count }
+  neither-ask x = record { at = neither_at x.at; env = x.env; bound = x.bound; room = x.room; count = x.count }
 
   pub neither-walked : {b : Binds} {work work' out out' : Bytes} {y : Tally} {r : Walk} → PatternWalked s b c depth work work' out out' y r → AnyWalked s b k c depth work work' out out' y r
-  neither-walked W a env u = W (neither-at a) env u
+  neither-walked W a env u = W (neither_at a) env u

@@ -45,7 +45,7 @@ use Rattle.infer.proofs.WalkTrees.{no-wants, tree-ends}
 use Rattle.infer.proofs.WalkKept.{form-before, form-whole, weak, before-weak, fine-weak, child-weak, leaves}
 use Rattle.infer.proofs.WalkSmall.{adds-long, type-behind, child-room, low-weak, end-room, spelt-name, asks-kids, kids-arity}
 use Rattle.infer.proofs.WalkLoop.{Base, expr-in, base-pos, base-typed, base-passed, Loop}
-use Rattle.infer.proofs.WalkTurn.{DoneAs, walked-done, walked-large, role_at, loop-len, turn-first, turn-line, turn-read, turn-any, turn-ask, turn_res, turn-halted, turn-large, turn-fine, turn_level, turn-name, turn_on, turn-countable}
+use Rattle.infer.proofs.WalkTurn.{DoneAs, walked-done, walked-large, role_at, loop-len, turn-first, turn-line, turn-read, turn_any, turn-ask, turn_res, turn-halted, turn-large, turn-fine, turn_level, turn-name, turn_on, turn-countable}
 
 -- ## The step after a child
 
@@ -129,7 +129,7 @@ module _ {s : Bytes} {b : Binds} {h : Seen} {here depth : ℕ} {hd : Head} {hs k
 
         module _ {ys out' : Bytes} {a : Walk} (W : AnyWalked s b k c (depth - 1) (Lent work st.len) ys out out' y a) where
           child-walked : Walked env s c.line.0 (turn-first B L less).head (turn-first B L less).under (turn-first B L less).behind (Lent work st.len) ys out out' y a
-          child-walked = W (turn-any B L less k read) env u
+          child-walked = W (turn_any B L less k read) env u
 
           -- it was too large
           pub child-large : (m : HirId) → a ≡ TooLarge m → judged (result_of env here hd hs) ≡ halted m.0
@@ -182,7 +182,7 @@ module _ {s : Bytes} {b : Binds} {h : Seen} {here depth : ℕ} {hd : Head} {hs k
               module _ {rl ro : ℕ} (ruled : rl ≡ typing_no qq) (played : ro ≡ role_no (role_at hd j)) where
                 pub some-step : SomeStep rl ro (Back work st.len ys) st' len x
                 some-step =
-                    record { typing = qq; role = role_at hd j; kept = weak L.kept; ty = (turn_res B L less).ty; name = (turn-first B L less).head.name; rule-no = ruled; role-no = played; at = step-at }
+                    record { typing = qq; role = role_at hd j; kept = weak L.kept; ty = (turn_res B L less).ty; name = (turn-first B L less).head.name; rule_is = ruled; role_is = played; at = step-at }
 
                 module _ {work'' out'' : Bytes} {d : Stepped} (S : SteppedBy rl ro (Back work st.len ys) work'' st' len x out' out'' z d) where
                   steps : Steps (child qq (role_at hd j) (weak L.kept) (turn-first B L less).head.name (turn_res B L less).ty) (role_at hd j) (turn_res B L less).ty (Back work st.len ys) work'' out' out'' z d

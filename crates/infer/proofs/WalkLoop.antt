@@ -119,7 +119,7 @@ pub record Loop (s : Bytes) (depth here : ℕ) (hd : Head) (hs ks : List Head) (
   pub above : c.line.0 ≤ c.at + 1
   pub same : kids here (typing_of (rule hd)) (start (typing_of (rule hd))) (roles hd) (take (arity hd) (walk env (suc here) hs))
       ≡ after faults (kids here (typing_of (rule hd)) kept (drop j (roles hd)) (left (drop j (roles hd)) env c.line.0 heads))
-  pub low-kids : All (λ r. levels r.ty ≤ depth - 1) (left (drop j (roles hd)) env c.line.0 heads)
+  pub low_kids : All (λ r. levels r.ty ≤ depth - 1) (left (drop j (roles hd)) env c.line.0 heads)
   pub state : StAs kept work st
   pub fine : FineKept kept
   pub form : Form (typing_of (rule hd)) j kept
@@ -146,7 +146,7 @@ loop-start {s} {h} {here} {depth} {hd} {hs} {ks} B env out work y c st e a =
       count = omega (arith, e.1);
       above = omega (arith, e.0, e.1, B.above);
       same = ap (λ (x : ℕ). kids here q (start q) (roles hd) (take (length (roles hd)) (walk env x hs))) n ∙ sym (after_none _);
-      low-kids = subst (λ (x : ℕ). All (λ r. levels r.ty ≤ depth - 1) (take (length (roles hd)) (walk env x hs))) n
+      low_kids = subst (λ (x : ℕ). All (λ r. levels r.ty ≤ depth - 1) (take (length (roles hd)) (walk env x hs))) n
           (subst (λ (x : ℕ). All (λ r. levels r.ty ≤ x) (take (length (roles hd)) (walk env (suc here) hs))) (omega (arith, base-pos B))
           (children-low env here depth hd hs ks B.met));
       state = a.0;

@@ -16,7 +16,7 @@ use Rattle.line.specs.declared.line.Head.{Head as Seen}
 use Rattle.line.specs.declared.line.HirId.{HirId}
 use Rattle.hir.specs.Check.{KidsAs}
 use Rattle.hir.specs.declared.valid.Kids.{Kids as Hung}
-use Rattle.hir.specs.Lines.{Lines, no_line, a-line, Met, all-met, meets}
+use Rattle.hir.specs.Lines.{Lines, no_line, a_line, Met, all_met, meets}
 use Rattle.hir.proofs.LinesLaws.{Inner, AllIn, one_in, inner-under, read_at}
 use Rattle.report.proofs.ReportLaws.{adds_none, adds_then}
 use Rattle.report.specs.Report.{faults_text, Adds}
@@ -40,18 +40,18 @@ use borrow.Author.Tests.{ne_eqb}
 -- ## Wants of one depth
 
 pub data AllAt (d : ℕ) : List Want → Type 0 where
-  none-at : AllAt d []
+  none_at : AllAt d []
   one_at : {q : Place} {ws : List Want} → 3 < rank q → AllAt d ws → AllAt d (at q d ∷ ws)
 
 at-append : {d : ℕ} {a b : List Want} → AllAt d a → AllAt d b → AllAt d (a ++ b)
-at-append none-at y = y
+at-append none_at y = y
 at-append (one_at i x) y = one_at i (at-append x y)
 
 in_all : {w : Want} {ws : List Want} → AllIn (w ∷ ws) → Inner w × AllIn ws
 in_all (one_in i is) = (i, is)
 
 roles-at : (d : ℕ) (ps : List Role) → AllIn (map (wanted d) ps) → AllAt d (map (wanted d) ps)
-roles-at d [] x = none-at
+roles-at d [] x = none_at
 roles-at d (p ∷ ps) x =
     let i = in_all x in
     subst (λ (w : Want). AllAt d (w ∷ map (wanted d) ps)) (sym (wanted-at d p)) (one_at (subst Inner (wanted-at d p) i.0) (roles-at d ps i.1))
@@ -63,9 +63,9 @@ pub record FirstAt (d : ℕ) (ws : List Want) : Type 0 where
   pub inside : 3 < rank place
   pub others : AllAt d rest
 
-first-at : {d : ℕ} {ws : List Want} → AllAt d ws → 0 < length ws → FirstAt d ws
-first-at none-at l = absurd (omega arith)
-first-at (one_at {q = q} {ws = ws} i x) l = record { place = q; rest = ws; same = refl; inside = i; others = x }
+first_at : {d : ℕ} {ws : List Want} → AllAt d ws → 0 < length ws → FirstAt d ws
+first_at none_at l = absurd (omega arith)
+first_at (one_at {q = q} {ws = ws} i x) l = record { place = q; rest = ws; same = refl; inside = i; others = x }
 
 no-wants-left : (ws : List Want) → length ws ≡ 0 → ws ≡ []
 no-wants-left [] e = refl
@@ -73,12 +73,12 @@ no-wants-left (w ∷ ws) e = absurd (omega arith)
 
 -- no more trees than lines, no more lines than bytes
 met-short : {ws : List Want} {hs ks : List Head} → Met ws hs ks → length ws ≤ length hs
-met-short all-met = omega arith
+met-short all_met = omega arith
 met-short (meets {w = w} {ws = ws} {h = h} f g m) = omega (arith, met-short m, length-append (under w h) ws)
 
 lines-few : {s : Bytes} {p r : ℕ} {hs : List Head} → Lines s p hs r → p + length hs ≤ r
 lines-few no_line = omega arith
-lines-few (a-line a l) = omega (arith, a.on, lines-few l)
+lines-few (a_line a l) = omega (arith, a.on, lines-few l)
 
 pub rank-expr : (q : Place) → rank q ≡ 13 → q ≡ expression_place
 unfolding rank
@@ -135,9 +135,9 @@ pat-start {s} {p} {depth} {c} t i env out y =
       wants = at p depth ∷ [];
       faults = [];
       many = refl;
-      lines = a-line t.line t.lines;
+      lines = a_line t.line t.lines;
       met = t.met;
-      inner = one_at i none-at;
+      inner = one_at i none_at;
       count = refl;
       above = t.above;
       room = t.room;
@@ -161,7 +161,7 @@ module _ {s : Bytes} {depth here : ℕ} {hd : Head} {hs ks : List Head} {env : E
 
   module _ (more : 0 < todo) where
     pub pat-at : FirstAt depth L.wants
-    pat-at = first-at L.inner (omega (arith, L.many))
+    pat-at = first_at L.inner (omega (arith, L.many))
 
     pub pat-first : First (at pat-at.place depth) pat-at.rest L.heads ks
     pat-first = first-met (subst (λ (x : List Want). Met x L.heads ks) pat-at.same L.met)
@@ -194,8 +194,8 @@ module _ {s : Bytes} {depth here : ℕ} {hd : Head} {hs ks : List Head} {env : E
         pat-met =
             subst (λ (q : Place). Met (at q depth ∷ []) (pat-first.head ∷ pat-first.under) pat-first.behind) (rank-expr pat-at.place (sym (met-rank pat-first.met) ∙ is)) pat-first.met
 
-        abbrev pat-expr : ExprAt s g c depth
-        pat-expr =
+        abbrev pat_expr : ExprAt s g c depth
+        pat_expr =
             record {
               tree = record {
                 head = pat-first.head;
@@ -215,7 +215,7 @@ module _ {s : Bytes} {depth here : ℕ} {hd : Head} {hs ks : List Head} {env : E
         pub pat-ask : {b : Binds} {work : Bytes} → EnvAs s b env → 1024 * (depth + 40) ≤ length work → Counting y₀ (suc (length hs)) → ExprAsk s b g c depth work y
         pat-ask u room n =
             record {
-              at = pat-expr;
+              at = pat_expr;
               env = env;
               bound = u;
               room = room;
@@ -227,7 +227,7 @@ module _ {s : Bytes} {depth here : ℕ} {hd : Head} {hs ks : List Head} {env : E
 
         module _ {b : Binds} (u : EnvAs s b env) {work work' out' : Bytes} {a : Walk} (W : ExprWalked s b g c depth work work' out out' y a) where
           pat-walked : Walked env s c.line.0 pat-first.head pat-first.under pat-first.behind work work' out out' y a
-          pat-walked = W pat-expr env u
+          pat-walked = W pat_expr env u
 
           pub pat-long : length work' ≡ length work
           pat-long = pat-walked.long

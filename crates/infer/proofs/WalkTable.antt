@@ -83,15 +83,15 @@ no-entering h e = go (rule h) (by_place h.word)
 
 -- a line that is no expression
 pub data Passes (h : Head) : Type 0 where
-  is-silent : rule h ≡ silent → Passes h
-  is-entry : rule h ≡ entering → Passes h
+  is_silent : rule h ≡ silent → Passes h
+  is_entry : rule h ≡ entering → Passes h
 
 pub passes_at : (h : Head) → (rank (place h) ≡ 13 → ⊥) → Passes h
 passes_at h n = go (rule h) refl (by_place h.word)
   where
     go : (r : Rule) → rule h ≡ r → ByPlace r (rank (place h)) (word_no h.word) → Passes h
-    go silent d b = is-silent d
-    go entering d b = is-entry d
+    go silent d b = is_silent d
+    go entering d b = is_entry d
     go (typed q) d b = absurd (n b.0)
 
 pub silent-at : (h : Head) → (rank (place h) ≡ 13 → ⊥) → (word_no h.word ≡ 40 → ⊥) → rule h ≡ silent

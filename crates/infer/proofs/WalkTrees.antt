@@ -12,19 +12,19 @@ use Rattle.semantics.specs.Ty.{Ty}
 use Rattle.semantics.specs.Sheet.{Head, Place, entering, rule, roles, arity, rank, place, Want, at, wanted, deeper, fits, beyond, ok, under, under as wants_under}
 use Rattle.semantics.specs.Walk.{Env, Res, Fault, step, walk, env_of, all_tests}
 use Rattle.semantics.specs.Calls.{first_large}
-use Rattle.hir.specs.Lines.{LineAt, Lines, no_line, a-line, Met, all-met, meets}
+use Rattle.hir.specs.Lines.{LineAt, Lines, no_line, a_line, Met, all_met, meets}
 use Rattle.hir.proofs.LinesLaws.{met-split, Inner, AllIn, none_in, one_in, inner-under, met-walk}
 use Rattle.walk_run.specs.Run.{halted, typed, judged, all_faults}
 use Rattle.walk_run.proofs.Silent.{silent-run, entering-run}
 use Rattle.bounds.proofs.Growth.{under-many, all_in}
 use Rattle.infer.specs.Walks.{result_of}
-use Rattle.infer.proofs.WalkTable.{Passes, is-silent, is-entry, entry-arity}
+use Rattle.infer.proofs.WalkTable.{Passes, is_silent, is_entry, entry-arity}
 
 -- ## Lines
 
 pub lines-in : {s : Bytes} {p r : ℕ} {hs : List Head} → Lines s p hs r → p ≤ r
 lines-in no_line = omega arith
-lines-in (a-line a l) = omega (arith, a.on, lines-in l)
+lines-in (a_line a l) = omega (arith, a.on, lines-in l)
 
 pub record FirstLine (s : Bytes) (p : ℕ) (h : Head) (hs : List Head) (r : ℕ) : Type 0 where
   pub next : ℕ
@@ -32,12 +32,12 @@ pub record FirstLine (s : Bytes) (p : ℕ) (h : Head) (hs : List Head) (r : ℕ)
   pub lines : Lines s next hs r
 
 pub first-line : {s : Bytes} {p r : ℕ} {h : Head} {hs : List Head} → Lines s p (h ∷ hs) r → FirstLine s p h hs r
-first-line (a-line {q = q} a l) = record { next = q; line = a; lines = l }
+first-line (a_line {q = q} a l) = record { next = q; line = a; lines = l }
 
 -- ## Trees
 
 pub no-wants : {hs ks : List Head} → Met [] hs ks → hs ≡ ks
-no-wants all-met = refl
+no-wants all_met = refl
 
 -- the first of some trees
 pub record First (w : Want) (ws : List Want) (hs ks : List Head) : Type 0 where
@@ -71,7 +71,7 @@ met-under {w} {h} {hs} {ks} i m =
 -- as many results as trees
 pub met-many : {ws : List Want} {hs ks : List Head} → AllIn ws → Met ws hs ks → (env : Env) (n : ℕ) → length ws ≤ length (walk env n hs)
 unfolding walk
-met-many i all-met env n = omega arith
+met-many i all_met env n = omega arith
 met-many (one_in i is) (meets {w = w} {ws = ws} {h = h} {hs = hs} f g m) env n =
     let u = inner-under w h i f in
     let r = met-many (all_in u.1 is) m env (suc n) in
@@ -127,8 +127,8 @@ one_only (r ∷ r' ∷ rs) e = absurd (omega arith)
 
 pub passes_on : (env : Env) (n : ℕ) (h : Head) (rs : List Res) → Passes h → length rs ≡ arity h → ((step env n h rs).faults ≡ all_faults rs) × ((step env n h rs).tests ≡ all_tests rs)
 unfolding all_faults all_tests
-passes_on env n h rs (is-silent e) l = silent-run env n h e rs l
-passes_on env n h rs (is-entry e) l =
+passes_on env n h rs (is_silent e) l = silent-run env n h e rs l
+passes_on env n h rs (is_entry e) l =
     let o = one_only rs (l ∙ entry-arity h e) in
     let x = entering-run env n h e o.0 in (
       ap (λ (y : List Res). (step env n h y).faults) o.1 ∙ x.2 ∙ sym (append-nil o.0.faults) ∙ ap all_faults (sym o.1),

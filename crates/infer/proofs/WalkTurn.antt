@@ -168,8 +168,8 @@ module _ {s : Bytes} {h : Seen} {here depth : ℕ} {hd : Head} {hs ks : List Hea
     pub turn-read : (k : Seen) → ReadAs s c.at k (split 10 (drop c.at s)) → HeadIs s k turn-first.head × (k.next ≡ turn-line.next)
     turn-read k r = read_at s c.at turn-line.next turn-first.head k turn-line.line r
 
-    abbrev pub turn-any : (k : Seen) → ReadAs s c.at k (split 10 (drop c.at s)) → AnyAt s k c (depth - 1)
-    turn-any k r =
+    abbrev pub turn_any : (k : Seen) → ReadAs s c.at k (split 10 (drop c.at s)) → AnyAt s k c (depth - 1)
+    turn_any k r =
         record {
           place = placed (role_at hd j);
           inside = turn_in;
@@ -192,7 +192,7 @@ module _ {s : Bytes} {h : Seen} {here depth : ℕ} {hd : Head} {hs ks : List Hea
         → AnyAsk s b k c (depth - 1) part y
     turn-ask b k r u part room n =
         record {
-          at = turn-any k r;
+          at = turn_any k r;
           env = env;
           bound = u;
           room = omega (arith, loop-len, base-pos B);
@@ -215,7 +215,7 @@ module _ {s : Bytes} {h : Seen} {here depth : ℕ} {hd : Head} {hs ks : List Hea
 
     turn_low : All (λ r. levels r.ty ≤ depth - 1)
         (turn_res ∷ take (length (drop (suc j) (roles hd))) (drop (arity turn-first.head) (walk env (suc c.line.0) turn-first.under)))
-    turn_low = subst (All (λ r. levels r.ty ≤ depth - 1)) turn-left L.low-kids
+    turn_low = subst (All (λ r. levels r.ty ≤ depth - 1)) turn-left L.low_kids
 
     turn-same : kids here (typing_of (rule hd)) (start (typing_of (rule hd))) (roles hd) (take (arity hd) (walk env (suc here) hs))
         ≡ after L.faults (kids here (typing_of (rule hd)) L.kept (role_at hd j ∷ drop (suc j) (roles hd))
@@ -283,7 +283,7 @@ module _ {s : Bytes} {h : Seen} {here depth : ℕ} {hd : Head} {hs ks : List Hea
               ∙ ap (after L.faults) (kids-on here q L.kept p (drop (suc j) (roles hd)) turn_res (take (length (drop (suc j) (roles hd))) (drop (arity turn-first.head) (walk env (suc c.line.0) turn-first.under))) i e d
               ∙ ap (λ (x : List Res). after gs (kids here q i (drop (suc j) (roles hd)) (take (length (drop (suc j) (roles hd))) x))) b.walked)
               ∙ after_two L.faults gs (kids here q i (drop (suc j) (roles hd)) (take (length (drop (suc j) (roles hd))) (walk env c'.line.0 turn-first.behind)));
-          low-kids = subst (λ (x : List Res). All (λ r. levels r.ty ≤ depth - 1) (take (length (drop (suc j) (roles hd))) x)) b.walked (all_rest turn_low);
+          low_kids = subst (λ (x : List Res). All (λ r. levels r.ty ≤ depth - 1) (take (length (drop (suc j) (roles hd))) x)) b.walked (all_rest turn_low);
           state = w;
           fine = f;
           form = if_kept (Form q (suc j)) (child q p L.kept turn_res.name turn_res.ty) i (form-step q p j L.kept turn_res.name turn_res.ty L.form) d;

@@ -186,8 +186,8 @@ pub record SomeStep (i r : ℕ) (s : Bytes) (st : Accumulator) (n : ℕ) (x : By
   pub kept : Kept
   pub ty : Ty
   pub name : Bytes
-  pub rule-no : i ≡ typing_no typing
-  pub role-no : r ≡ role_no role
+  pub rule_is : i ≡ typing_no typing
+  pub role_is : r ≡ role_no role
   pub at : StepAt typing role kept ty name s st n x
 
 abbrev pub KeptBy : ℕ → ℕ → Bytes → Bytes → Accumulator → ℕ → Bytes → Keep → Type 0

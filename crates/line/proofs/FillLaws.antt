@@ -20,17 +20,17 @@ use Rattle.line.specs.Fields.{field_of, fields_of, clip, val_of, why_of, num_of,
 
 pub data Says : Field → Bytes → Value → Type 0 where
   faulty : {f : Field} {s : Bytes} {c : ℕ} → 0 < c → Says f s (wrong c)
-  in-range : {l m n : ℕ} {s : Bytes} → n ≤ m → Says (range l m) s (number n)
-  a-bound : {n : ℕ} {s : Bytes} → n ≤ 18446744073709551616 → Says bound s (number n)
-  a-letter : {n : ℕ} {s : Bytes} → n ≤ 3 → Says letter s (number n)
+  in_range : {l m n : ℕ} {s : Bytes} → n ≤ m → Says (range l m) s (number n)
+  a_bound : {n : ℕ} {s : Bytes} → n ≤ 18446744073709551616 → Says bound s (number n)
+  a_letter : {n : ℕ} {s : Bytes} → n ≤ 3 → Says letter s (number n)
   a_signed : {n : ℕ} {s : Bytes} → n ≤ 18446744073709551615 → Says signed s (number n)
-  a-variable : {v : ℕ} {s : Bytes} → v ≤ 4294967295 → Says variable s (variable_v (some v))
-  some-variable : {v : ℕ} {s : Bytes} → v ≤ 4294967295 → Says optional s (variable_v (some v))
-  no-variable : {s : Bytes} → Says optional s (variable_v none)
-  a-name : {s ds : Bytes} → unhex s ≡ some ds → Says name s (name_v ds)
-  a-float : {s ds : Bytes} → unhex s ≡ some ds → Says float s (name_v ds)
-  an-alias : {s ds : Bytes} → unhex s ≡ some ds → Says alias s (alias_v ds)
-  no-alias : {s : Bytes} → Says alias s (number 0)
+  a_variable : {v : ℕ} {s : Bytes} → v ≤ 4294967295 → Says variable s (variable_v (some v))
+  some_variable : {v : ℕ} {s : Bytes} → v ≤ 4294967295 → Says optional s (variable_v (some v))
+  no_variable : {s : Bytes} → Says optional s (variable_v none)
+  a_name : {s ds : Bytes} → unhex s ≡ some ds → Says name s (name_v ds)
+  a_float : {s ds : Bytes} → unhex s ≡ some ds → Says float s (name_v ds)
+  an_alias : {s ds : Bytes} → unhex s ≡ some ds → Says alias s (alias_v ds)
+  no_alias : {s : Bytes} → Says alias s (number 0)
 
 three : {f : Field} {s : Bytes} → Says f s (wrong 3)
 three = faulty {c = 3} (omega arith)
@@ -64,10 +64,10 @@ lettered-says [] = three
 lettered-says (c ∷ []) = go (eqb c 78) (eqb c 82) (eqb c 80) (eqb c 86)
   where
     go : (p q r t : Bool) → Says letter (c ∷ []) (elim p [ true ↦ number 0 | false ↦ elim q [ true ↦ number 1 | false ↦ elim r [ true ↦ number 2 | false ↦ elim t [ true ↦ number 3 | false ↦ wrong 3 ] ] ] ])
-    go true q r t = a-letter {n = 0} (omega arith)
-    go false true r t = a-letter {n = 1} (omega arith)
-    go false false true t = a-letter {n = 2} (omega arith)
-    go false false false true = a-letter {n = 3} (omega arith)
+    go true q r t = a_letter {n = 0} (omega arith)
+    go false true r t = a_letter {n = 1} (omega arith)
+    go false false true t = a_letter {n = 2} (omega arith)
+    go false false false true = a_letter {n = 3} (omega arith)
     go false false false false = three
 lettered-says (c ∷ d ∷ s) = three
 
@@ -77,7 +77,7 @@ float_says s none e = three
 float_says s (some ds) e = go (eqb (length ds) 16)
   where
     go : (p : Bool) → Says float s (elim p [ true ↦ name_v ds | false ↦ wrong 3 ])
-    go true = a-float e
+    go true = a_float e
     go false = three
 
 signed-says : (s : Bytes) → Says signed s (signed_of s)
@@ -101,24 +101,24 @@ unfolding bound_of
 bound-says l s = go (is_dash s) (eqb l 0)
   where
     go : (p q : Bool) → Says bound s (elim p [ true ↦ number 0 | false ↦ elim q [ true ↦ wrong 3 | false ↦ within 0 bound_limit (decimal s) (λ n. number (suc n)) ] ])
-    go true q = a-bound {n = 0} (omega arith)
+    go true q = a_bound {n = 0} (omega arith)
     go false true = three
-    go false false = within-says bound s 0 bound_limit (decimal s) _ (λ n p q. a-bound {n = suc n} (omega arith))
+    go false false = within-says bound s 0 bound_limit (decimal s) _ (λ n p q. a_bound {n = suc n} (omega arith))
 
 optional-says : (s : Bytes) (p : Bool) → Says optional s (elim p [ true ↦ variable_v none | false ↦ within 0 variable_limit (decimal s) (λ v. variable_v (some v)) ])
-optional-says s true = no-variable
-optional-says s false = within-says optional s 0 variable_limit (decimal s) _ (λ n p q. some-variable q)
+optional-says s true = no_variable
+optional-says s false = within-says optional s 0 variable_limit (decimal s) _ (λ n p q. some_variable q)
 
 alias-says : (s : Bytes) (p : Bool) → Says alias s (elim p [ true ↦ number 0 | false ↦ named (unhex s) alias_v ])
-alias-says s true = no-alias
-alias-says s false = named-says alias s (unhex s) alias_v refl (λ ds e. an-alias e)
+alias-says s true = no_alias
+alias-says s false = named-says alias s (unhex s) alias_v refl (λ ds e. an_alias e)
 
 pub says : (f : Field) (l : ℕ) (s : Bytes) → Says f s (value_at f l s)
 unfolding value_at
-says (range a b) l s = within-says (range a b) s a b (decimal s) number (λ n p q. in-range q)
-says variable l s = within-says variable s 0 variable_limit (decimal s) _ (λ n p q. a-variable q)
+says (range a b) l s = within-says (range a b) s a b (decimal s) number (λ n p q. in_range q)
+says variable l s = within-says variable s 0 variable_limit (decimal s) _ (λ n p q. a_variable q)
 says optional l s = optional-says s (is_dash s)
-says name l s = named-says name s (unhex s) name_v refl (λ ds e. a-name e)
+says name l s = named-says name s (unhex s) name_v refl (λ ds e. a_name e)
 says alias l s = alias-says s (is_dash s)
 says bound l s = bound-says l s
 says letter l s = lettered-says s
@@ -178,7 +178,7 @@ small-variable l s k e = rw e (go _ (says variable l s))
   where
     go : (v : Value) → Says variable s v → num_of v < 4294967296
     go (wrong c) (faulty p) = omega arith
-    go (variable_v (some v)) (a-variable p) = omega arith
+    go (variable_v (some v)) (a_variable p) = omega arith
     go (number _) x'' = elim x'' [ ]
     go (variable_v none) x4 = elim x4 [ ]
     go (name_v _) x4 = elim x4 [ ]
@@ -190,8 +190,8 @@ small-optional l s k e = rw e (go _ (says optional l s))
   where
     go : (v : Value) → Says optional s v → num_of v < 4294967296
     go (wrong c) (faulty p) = omega arith
-    go (variable_v (some v)) (some-variable p) = omega arith
-    go (variable_v none) no-variable = omega arith
+    go (variable_v (some v)) (some_variable p) = omega arith
+    go (variable_v none) no_variable = omega arith
     go (number _) x'' = elim x'' [ ]
     go (name_v _) x3 = elim x3 [ ]
     go (alias_v _) x4 = elim x4 [ ]
@@ -257,17 +257,17 @@ module _ (s : Bytes) (k : ℕ) (f : Fields) (h : Head) (a : Agrees s k f h) wher
   pub agrees_on : (p q : ℕ) → q ≤ length s → (g : Field) (v : Value) → Says g (slice p q s) v → why_of v ≡ 0 → Agrees s k (stored_in g f k p q (num_of v)) (absorbed h v)
   unfolding stored_in
   agrees_on p q w g (wrong c) (faulty i) e = absurd (omega arith)
-  agrees_on p q w (range l m) (number n) (in-range i) e = agrees-push n
-  agrees_on p q w bound (number n) (a-bound i) e = agrees-push n
-  agrees_on p q w letter (number n) (a-letter i) e = agrees-push n
+  agrees_on p q w (range l m) (number n) (in_range i) e = agrees-push n
+  agrees_on p q w bound (number n) (a_bound i) e = agrees-push n
+  agrees_on p q w letter (number n) (a_letter i) e = agrees-push n
   agrees_on p q w signed (number n) (a_signed i) e = agrees-push n
-  agrees_on p q w variable (variable_v (some v)) (a-variable i) e = agrees-var (some v)
-  agrees_on p q w optional (variable_v (some v)) (some-variable i) e = agrees-var (some v)
-  agrees_on p q w optional (variable_v none) no-variable e = agrees-var none
-  agrees_on p q w name (name_v ds) (a-name i) e = agrees-name p q w ds i
-  agrees_on p q w float (name_v ds) (a-float i) e = agrees-name p q w ds i
-  agrees_on p q w alias (alias_v ds) (an-alias i) e = agrees-alias p q w ds i
-  agrees_on p q w alias (number n) no-alias e = agrees-push 0
+  agrees_on p q w variable (variable_v (some v)) (a_variable i) e = agrees-var (some v)
+  agrees_on p q w optional (variable_v (some v)) (some_variable i) e = agrees-var (some v)
+  agrees_on p q w optional (variable_v none) no_variable e = agrees-var none
+  agrees_on p q w name (name_v ds) (a_name i) e = agrees-name p q w ds i
+  agrees_on p q w float (name_v ds) (a_float i) e = agrees-name p q w ds i
+  agrees_on p q w alias (alias_v ds) (an_alias i) e = agrees-alias p q w ds i
+  agrees_on p q w alias (number n) no_alias e = agrees-push 0
   agrees_on p q w variable (number n) x3 e = elim x3 [ ]
   agrees_on p q w optional (number n) x4 e = elim x4 [ ]
   agrees_on p q w name (number n) x5 e = elim x5 [ ]

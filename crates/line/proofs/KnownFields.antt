@@ -33,7 +33,7 @@ use Rattle.line.proofs.ReadLaws.{small_all}
 use Rattle.line.proofs.LineLaws.{FillAt, split-some, pieces-in, pieces_step}
 use Rattle.line.proofs.QuickFields.{not-dash, first_of}
 use Rattle.line.proofs.QuickLaws.{Cut, cut-ends, QuickInv, quick-start}
-use Rattle.line.proofs.KnownLaws.{no_ok, Fine, fine-line, Place, line-place, PieceAt, piece-at, number-stands}
+use Rattle.line.proofs.KnownLaws.{no_ok, Fine, fine-line, Place, line-place, PieceAt, piece-at, number_stands}
 
 -- ## Bytes up to one below 45
 
@@ -177,8 +177,8 @@ high-bytes s at e w u i h k =
     let y = hex-high (get_or (slice at e s) (i - at) 0) (hex-at (slice at e s) (i - at) (omega (arith, long)) x) in
     omega (arith, y, get_or-slice at e s (i - at) 0 (omega arith), ap (λ (j : ℕ). get_or s j 0) z)
 
-abbrev pub spelled-high : (s : Bytes) (at shape l : ℕ) (d : PieceFine s at shape l) → is_found (unhex (slice at d.end s)) ≡ true → HighAt s at
-spelled-high s at shape l d e =
+abbrev pub spelled_high : (s : Bytes) (at shape l : ℕ) (d : PieceFine s at shape l) → is_found (unhex (slice at d.end s)) ≡ true → HighAt s at
+spelled_high s at shape l d e =
     record { end = d.end; from = d.stood.from; inside = d.stood.inside; stop = d.stop; high = high-bytes s at d.end (omega (arith, d.stood.inside)) e }
 
 -- ## What was read is the field
@@ -192,15 +192,15 @@ got-fine s at shape l d e n p q z =
 -- an end that was found by its bytes
 pub got-high : (s : Bytes) (at shape l n e : ℕ) (d : PieceFine s at shape l) → is_found (unhex (slice at d.end s)) ≡ true → ((h : HighAt s at) → e ≡ h.end)
     → num_of (value_at (field_of shape) l (slice at d.end s)) ≡ n → GotAs s at shape l (record { end = e; n = n })
-got-high s at shape l n e d h f q = got-fine s at shape l d e n (f (spelled-high s at shape l d h)) q
+got-high s at shape l n e d h f q = got-fine s at shape l d e n (f (spelled_high s at shape l d h)) q
 
 -- digits that are the whole piece
-abbrev pub counted-digits : (s : Bytes) (at shape l : ℕ) (d : PieceFine s at shape l) → Counted (slice at d.end s) (value_at (field_of shape) l (slice at d.end s)) → DigitsAt s at
-counted-digits s at shape l d c = number-stands s at d.end c.0 d.stood.from d.stood.inside (omega (arith, d.stop)) c.1 c.2
+abbrev pub counted_digits : (s : Bytes) (at shape l : ℕ) (d : PieceFine s at shape l) → Counted (slice at d.end s) (value_at (field_of shape) l (slice at d.end s)) → DigitsAt s at
+counted_digits s at shape l d c = number_stands s at d.end c.0 d.stood.from d.stood.inside (omega (arith, d.stop)) c.1 c.2
 
 pub got-counted : (s : Bytes) (at shape l : ℕ) (d : PieceFine s at shape l) → Counted (slice at d.end s) (value_at (field_of shape) l (slice at d.end s))
     → (r : Got) → DigitsAs s at r → GotAs s at shape l r
-got-counted s at shape l d c r f = let x = f (counted-digits s at shape l d c) in got-fine s at shape l d r.end r.n x.0 (c.3 ∙ sym x.1)
+got-counted s at shape l d c r f = let x = f (counted_digits s at shape l d c) in got-fine s at shape l d r.end r.n x.0 (c.3 ∙ sym x.1)
 
 pub number-counted : (s : Bytes) (at shape l : ℕ) → shape < 8 → (d : PieceFine s at shape l) → Counted (slice at d.end s) (value_at (field_of shape) l (slice at d.end s))
 number-counted s at shape l h d = counted (field_of shape) (numeric shape h) l (slice at d.end s) d.fine
@@ -291,15 +291,15 @@ module _ (s : Bytes) (at l : ℕ) (d : PieceFine s at 13 l) where
         let w = signed-minus (slice at d.end s) (first_of s at d.end (dash-before s at 13 l d e) ∙ e) fine-signed in
         (w.0, ap decimal (sym (drop-slice 1 at d.end s)) ∙ w.1, w.2, w.3)
 
-    abbrev pub minus-digits : DigitsAt s (at + 1)
-    minus-digits = number-stands s (at + 1) d.end minus.0 (omega (arith, dash-before s at 13 l d e)) d.stood.inside (omega (arith, d.stop)) minus.1 (omega (arith, minus.2))
+    abbrev pub minus_digits : DigitsAt s (at + 1)
+    minus_digits = number_stands s (at + 1) d.end minus.0 (omega (arith, dash-before s at 13 l d e)) d.stood.inside (omega (arith, d.stop)) minus.1 (omega (arith, minus.2))
 
     pub minus-small : (g : Got) → DigitsAs s (at + 1) g → g.n ≤ 9223372036854775808
-    minus-small g f = omega (arith, (f minus-digits).1, minus.2)
+    minus-small g f = omega (arith, (f minus_digits).1, minus.2)
 
     pub got-minus : (g : Got) → DigitsAs s (at + 1) g → GotAs s at 13 l (record { end = g.end; n = 9223372036854775808 - g.n })
     got-minus g f =
-        let x = f minus-digits in
+        let x = f minus_digits in
         got-fine s at 13 l d g.end (9223372036854775808 - g.n) x.0 (same-signed ∙ minus.3 ∙ ap (λ (v : ℕ). 9223372036854775808 - v) (sym x.1))
 
   module _ (e : get_or s at 0 ≡ 45 → ⊥) where
@@ -308,15 +308,15 @@ module _ (s : Bytes) (at l : ℕ) (d : PieceFine s at 13 l) where
         let long : length (slice at d.end s) ≡ d.end - at = length-slice at d.end s (omega (arith, d.stood.inside)) in
         signed-plus (slice at d.end s) (λ h z. e (sym (first_of s at d.end (omega (arith, long))) ∙ z)) fine-signed
 
-    abbrev pub plus-digits : DigitsAt s at
-    plus-digits = number-stands s at d.end plus.0 d.stood.from d.stood.inside (omega (arith, d.stop)) plus.1 (omega (arith, plus.2))
+    abbrev pub plus_digits : DigitsAt s at
+    plus_digits = number_stands s at d.end plus.0 d.stood.from d.stood.inside (omega (arith, d.stop)) plus.1 (omega (arith, plus.2))
 
     pub plus-small : (g : Got) → DigitsAs s at g → g.n ≤ 9223372036854775807
-    plus-small g f = omega (arith, (f plus-digits).1, plus.2)
+    plus-small g f = omega (arith, (f plus_digits).1, plus.2)
 
     pub got-plus : (g : Got) → DigitsAs s at g → GotAs s at 13 l (record { end = g.end; n = 9223372036854775808 + g.n })
     got-plus g f =
-        let x = f plus-digits in
+        let x = f plus_digits in
         got-fine s at 13 l d g.end (9223372036854775808 + g.n) x.0 (same-signed ∙ plus.3 ∙ ap (λ (v : ℕ). 9223372036854775808 + v) (sym x.1))
 
 -- ## The next field of a fine line
@@ -442,12 +442,12 @@ module _ (s : Bytes) (end word : ℕ) (bytes : (x : ℕ) → get_or s x 0 < 256)
     d = one-fine s end word shape bytes er (omega arith) b inside comma
 
     pub one-digits : DigitsAt s (end + 1)
-    one-digits = counted-digits s (end + 1) shape 0 d (number-counted s (end + 1) shape 0 small d)
+    one-digits = counted_digits s (end + 1) shape 0 d (number-counted s (end + 1) shape 0 small d)
 
     pub one_number : (g : Got) → DigitsAs s (end + 1) g → Stood s (end + 1) g.end × (record { why = 0; n = g.n } ≡ val_of (value_at (field_of shape) 0 (slice (end + 1) g.end s)))
     one_number g f =
         let c = number-counted s (end + 1) shape 0 small d in
-        let x = f (counted-digits s (end + 1) shape 0 d c) in
+        let x = f (counted_digits s (end + 1) shape 0 d c) in
         got-counted s (end + 1) shape 0 d c g f (omega (arith, x.0, d.stood.from))
 
   module _ (er : 289 ≡ get_or shapes word 0) where
@@ -458,9 +458,9 @@ module _ (s : Bytes) (end word : ℕ) (bytes : (x : ℕ) → get_or s x 0 < 256)
     told = spelled-name 9 refl 0 (slice (end + 1) said.end s) said.fine
 
     pub one-high : HighAt s (end + 1)
-    one-high = spelled-high s (end + 1) 9 0 said told.0
+    one-high = spelled_high s (end + 1) 9 0 said told.0
 
     pub one_name : (e : ℕ) → ((h : HighAt s (end + 1)) → e ≡ h.end) → Stood s (end + 1) e × (record { why = 0; n = 0 } ≡ val_of (value_at (field_of 9) 0 (slice (end + 1) e s)))
     one_name e f =
-        let x = f (spelled-high s (end + 1) 9 0 said told.0) in
+        let x = f (spelled_high s (end + 1) 9 0 said told.0) in
         got-high s (end + 1) 9 0 0 e said told.0 f told.1 (omega (arith, x, said.stood.from))

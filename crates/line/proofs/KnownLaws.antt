@@ -23,7 +23,7 @@ use Rattle.line.specs.declared.in_place.Got.{Got}
 use Rattle.line.specs.declared.known.Bound.{Bound}
 use Rattle.line.specs.Line.{known, word_says, pieces_say, line_says, pieces}
 use Rattle.line.specs.Known.{LineAt, FineAt, DigitsAt, DigitsAs, BindingAt, BoundAs}
-use Rattle.line.proofs.FillLaws.{Says, faulty, a-letter, lettered-says}
+use Rattle.line.proofs.FillLaws.{Says, faulty, a_letter, lettered-says}
 use Rattle.line.proofs.QuickFields.{first_of}
 use Rattle.line.proofs.LineLaws.{split-some, pieces-in, pieces-past, pieces_step}
 
@@ -238,8 +238,8 @@ decimal-digits (c ∷ d ∷ t) v e = go (eqb c 48) e
     go true f = absurd (not_some v f)
     go false f = f
 
-abbrev pub number-stands : (s : Bytes) (at e v : ℕ) → at ≤ e → e < length s → get_or s e 0 < 48 → decimal (slice at e s) ≡ some v → v < 18446744073709551616 → DigitsAt s at
-number-stands s at e v h k m d l = record { end = e; value = v; from = h; inside = k; stop = m; says = decimal-digits (slice at e s) v d; small = l }
+abbrev pub number_stands : (s : Bytes) (at e v : ℕ) → at ≤ e → e < length s → get_or s e 0 < 48 → decimal (slice at e s) ≡ some v → v < 18446744073709551616 → DigitsAt s at
+number_stands s at e v h k m d l = record { end = e; value = v; from = h; inside = k; stop = m; says = decimal-digits (slice at e s) v d; small = l }
 
 -- ## A binding
 
@@ -267,7 +267,7 @@ pair-said k h a b f = by-variable (decimal a) refl f
   where
     by-letter : (v : ℕ) → decimal a ≡ some v → v ≤ 4294967295 → (x : Value) → lettered b ≡ x → Says letter b x → into (record { word = k.word; var = some v; nums = k.nums; name = k.name }) x (λ i. fill i [] []) ≡ ok h → Pair k h a b
     by-letter v ea l (wrong c) e (faulty p) d = absurd (no_ok c h d)
-    by-letter v ea l (number n) e (a-letter p) d =
+    by-letter v ea l (number n) e (a_letter p) d =
         let q : record { word = k.word; var = some v; nums = k.nums ++ (n ∷ []); name = k.name } ≡ h = cc in
         record { value = v; kind = n; decimal = ea; small = l; letter = e; var = ap (λ (y : Head). y.var) (sym q); nums = ap (λ (y : Head). y.nums) (sym q) }
     by-letter v ea l (variable_v _) e x5 d = elim x5 [ ]
@@ -358,18 +358,18 @@ module _ (s : Bytes) (at : ℕ) (h : Head) (q : ℕ) (a : LineAt s at h q) (firs
   binding = two f.rest refl (f.many ∙ ap length fields) (rw fields at f.filled)
 
 -- the digits of a binding's variable
-abbrev pub binding-digits : (s : Bytes) (at : ℕ) → BindingAt s at → DigitsAt s (at + 2)
-binding-digits s at b =
+abbrev pub binding_digits : (s : Bytes) (at : ℕ) → BindingAt s at → DigitsAt s (at + 2)
+binding_digits s at b =
     let w = binding s at b.head b.next b.line b.first in
-    number-stands s (at + 2) w.end w.value w.from (omega (arith, w.next, b.line.inside)) (omega (arith, w.mark)) w.decimal (omega (arith, w.small))
+    number_stands s (at + 2) w.end w.value w.from (omega (arith, w.next, b.line.inside)) (omega (arith, w.mark)) w.decimal (omega (arith, w.small))
 
 pub binding-small : (s : Bytes) (at : ℕ) → BindingAt s at → (g : Got) → DigitsAs s (at + 2) g → g.n ≤ 4294967295
-binding-small s at b g f = omega (arith, (f (binding-digits s at b)).1, (binding s at b.head b.next b.line b.first).small)
+binding-small s at b g f = omega (arith, (f (binding_digits s at b)).1, (binding s at b.head b.next b.line b.first).small)
 
 pub binding-says : (s : Bytes) (at : ℕ) (b : BindingAt s at) (g : Got) → DigitsAs s (at + 2) g → (r : Bound) → r.end ≡ g.end → r.var.0 ≡ g.n → BoundAs s b.head b.next r
 binding-says s at b g f r e v =
     let w = binding s at b.head b.next b.line b.first in
-    let d = f (binding-digits s at b) in
+    let d = f (binding_digits s at b) in
     record { var = v ∙ d.1 ∙ sym w.var; next = omega (arith, e, d.0, w.next); kind = ap (λ (j : ℕ). lettered (get_or s (j + 1) 0 ∷ [])) (e ∙ d.0) ∙ w.kind }
 
 -- ## The letter of a kind

@@ -22,7 +22,7 @@ use Rattle.line.specs.Line.{pieces, FilledAs, Plain, unknown, known, word_says, 
 use Rattle.line.specs.Opening.{WordIs}
 use Rattle.line.proofs.Words.{Small, number_word}
 use Rattle.line.proofs.Rows.{shape-rule, count-rule, word-range, flag-rule, counted-rule, num-rule}
-use Rattle.line.proofs.FillLaws.{Says, says, faulty, in-range, a-bound, a-letter, a_signed, a-variable, some-variable, no-variable, a-name, a-float, an-alias, no-alias, value-at}
+use Rattle.line.proofs.FillLaws.{Says, says, faulty, in_range, a_bound, a_letter, a_signed, a_variable, some_variable, no_variable, a_name, a_float, an_alias, no_alias, value-at}
 use Rattle.line.proofs.LineLaws.{pieces-in, pieces_step, split-some}
 use Rattle.text.specs.Text.{Ends}
 use Rattle.text.proofs.Laws.{part_slice}
@@ -90,17 +90,17 @@ keeping f fs h h' k e ew en x = record { word = x.word ∙ ew; more = x.more; nu
 filling-into : (f : Field) (fs : List Field) (x : Bytes) (h k : Head) (v : Value) (g : Head → Read) → Says f x v → Fills fs h k g → into h v g ≡ ok k → Filling (f ∷ fs) h k
 unfolding most
 filling-into f fs x h k (wrong c) g (faulty p) ih e = absurd (no_ok c k e)
-filling-into (range l m) fs x h k (number n) g (in-range p) ih e = pushing (range l m) fs h k none _ n (λ i. refl) p (ih _ e)
-filling-into bound fs x h k (number n) g (a-bound p) ih e = pushing bound fs h k none _ n (λ i. refl) p (ih _ e)
-filling-into letter fs x h k (number n) g (a-letter p) ih e = pushing letter fs h k none _ n (λ i. refl) p (ih _ e)
+filling-into (range l m) fs x h k (number n) g (in_range p) ih e = pushing (range l m) fs h k none _ n (λ i. refl) p (ih _ e)
+filling-into bound fs x h k (number n) g (a_bound p) ih e = pushing bound fs h k none _ n (λ i. refl) p (ih _ e)
+filling-into letter fs x h k (number n) g (a_letter p) ih e = pushing letter fs h k none _ n (λ i. refl) p (ih _ e)
 filling-into signed fs x h k (number n) g (a_signed p) ih e = pushing signed fs h k none _ n (λ i. refl) p (ih _ e)
-filling-into alias fs x h k (number n) g no-alias ih e = pushing alias fs h k none _ 0 (λ i. refl) (omega arith) (ih _ e)
-filling-into alias fs x h k (alias_v s) g (an-alias p) ih e = pushing alias fs h k none _ 1 (λ i. refl) (omega arith) (ih _ e)
-filling-into variable fs x h k (variable_v (some v)) g (a-variable p) ih e = keeping variable fs h _ k (λ i. refl) refl refl (ih _ e)
-filling-into optional fs x h k (variable_v (some v)) g (some-variable p) ih e = keeping optional fs h _ k (λ i. refl) refl refl (ih _ e)
-filling-into optional fs x h k (variable_v none) g no-variable ih e = keeping optional fs h _ k (λ i. refl) refl refl (ih _ e)
-filling-into name fs x h k (name_v s) g (a-name p) ih e = keeping name fs h _ k (λ i. refl) refl refl (ih _ e)
-filling-into float fs x h k (name_v s) g (a-float p) ih e = keeping float fs h _ k (λ i. refl) refl refl (ih _ e)
+filling-into alias fs x h k (number n) g no_alias ih e = pushing alias fs h k none _ 0 (λ i. refl) (omega arith) (ih _ e)
+filling-into alias fs x h k (alias_v s) g (an_alias p) ih e = pushing alias fs h k none _ 1 (λ i. refl) (omega arith) (ih _ e)
+filling-into variable fs x h k (variable_v (some v)) g (a_variable p) ih e = keeping variable fs h _ k (λ i. refl) refl refl (ih _ e)
+filling-into optional fs x h k (variable_v (some v)) g (some_variable p) ih e = keeping optional fs h _ k (λ i. refl) refl refl (ih _ e)
+filling-into optional fs x h k (variable_v none) g no_variable ih e = keeping optional fs h _ k (λ i. refl) refl refl (ih _ e)
+filling-into name fs x h k (name_v s) g (a_name p) ih e = keeping name fs h _ k (λ i. refl) refl refl (ih _ e)
+filling-into float fs x h k (name_v s) g (a_float p) ih e = keeping float fs h _ k (λ i. refl) refl refl (ih _ e)
 filling-into variable fs x h k (number n) g x6 ih e = elim x6 [ ]
 filling-into optional fs x h k (number n) g x7 ih e = elim x7 [ ]
 filling-into name fs x h k (number n) g x8 ih e = elim x8 [ ]

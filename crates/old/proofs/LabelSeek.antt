@@ -28,7 +28,7 @@ use Rattle.ty.specs.declared.Grown.{Grown}
 use Rattle.ty.specs.declared.Grown.TheVariants.{Len, TooLarge}
 use Rattle.ty.proofs.EntryLaws.{fronted-over, fronted-within, inserted-long, inserted-front}
 use Rattle.ty.proofs.Lines.{line-to, name-to, hex-bytes}
-use Rattle.ty.proofs.NameLaws.{name-long, name-append, name-ends, name-part, lex-hex}
+use Rattle.ty.proofs.NameLaws.{name-long, name-append, name-ends, name_part, lex-hex}
 use Rattle.old.specs.declared.labels.LabelSpot.TheVariants.{New, There}
 use Rattle.old.specs.Make.{StartIn, LabelsFront, SomeLabel, LabelGoes, LabelSpotted, LabelAdded}
 
@@ -248,7 +248,7 @@ module _ (w : Bytes) (n : ℕ) (x : Bytes) (ls : List Bytes) (m : Bytes) (f : La
 
       module _ (o : Order) (told : order_of o ≡ lex (take (c - a) (drop a w)) x) where
         compared : order_of o ≡ lex met.name m
-        compared = told ∙ ap₂ lex (part_slice a c w ∙ name-part w a c met.name met.here en) z ∙ lex-hex met.name m
+        compared = told ∙ ap₂ lex (part_slice a c w ∙ name_part w a c met.name met.here en) z ∙ lex-hex met.name m
 
         pub seek-up : o ≡ Before → Seeking ls m (c + 1) hi
         unfolding spelled

@@ -25,7 +25,7 @@ use Rattle.ty.specs.declared.Grown.TheVariants.{Len, TooLarge}
 use Rattle.ty.proofs.NameLaws.{name-long, head-name}
 use Rattle.ty.proofs.Places.{byte_at}
 use Rattle.ty.proofs.Skips.{name-past}
-use Rattle.ty.proofs.Fields.{field-yes, field_is, name-part}
+use Rattle.ty.proofs.Fields.{field-yes, field_is, name_part}
 use Rattle.old.specs.declared.Answer.{Answer}
 use Rattle.old.specs.declared.Answer.TheVariants.{Done, Large}
 use Rattle.old.specs.Make.{MadeAs, LabelsFront, SomeLabel, LabelAdded}
@@ -134,7 +134,7 @@ module _ (s w : Bytes) (at q n : ℕ) (ls : List Bytes) (rest : Bytes) (i : Labe
         go [] y h o = absurd (false≢true (sym g ∙ field_is s q 33 rest h))
         go (m ∷ l) y h o =
             let p = name-past s q m (names_to l rest) h in
-            record { name = m; others = l; left = y; spelt = rw z (name-part s q m (names_to l rest) h); good = o.0; on = rw z p.1; inside = rw z p.0 }
+            record { name = m; others = l; left = y; spelt = rw z (name_part s q m (names_to l rest) h); good = o.0; on = rw z p.1; inside = rw z p.0 }
 
     pub label-ready : (x : Bytes) → x ≡ slice q e s → 3072 ≤ length w → SomeLabel w n x
     label-ready x y h =

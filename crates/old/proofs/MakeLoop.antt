@@ -48,8 +48,8 @@ use Rattle.old.proofs.SetAll.{set_all, New, new-start, set_all_lem, set_holds, a
 pub data Parts (i l : ℕ) (x r : Bytes) (whole : Ty) : Acc → ℕ → Type 0 where
   the_one : (t : Ty) → i ≡ 0 → x ≡ line_to t r → Within l t → made whole ≡ t_list (made t) → Parts i l x r whole opening 74
   over : (u : Ty) → i ≡ 1 → x ≡ r → made whole ≡ t_list u → Parts i l x r whole (listed u) 74
-  some-entries : (fs gs : Fields) → x ≡ fields_to fs r → NamedF fs → distinct_names_f fs ≡ true → nesting_f fs ≤ l → New fs gs → made whole ≡ t_map (set_all fs gs) → Parts i l x r whole (mapped gs) 75
-  some-members : (ts : Tys) (src ms : List Ty) → x ≡ members_to ts r → NamedS ts → distinct_names_s ts ≡ true → nesting_s ts ≤ l → ms ≡ inserts src [] → made whole ≡ joined (gather (made_s ts) ms)
+  some_entries : (fs gs : Fields) → x ≡ fields_to fs r → NamedF fs → distinct_names_f fs ≡ true → nesting_f fs ≤ l → New fs gs → made whole ≡ t_map (set_all fs gs) → Parts i l x r whole (mapped gs) 75
+  some_members : (ts : Tys) (src ms : List Ty) → x ≡ members_to ts r → NamedS ts → distinct_names_s ts ≡ true → nesting_s ts ≤ l → ms ≡ inserts src [] → made whole ≡ joined (gather (made_s ts) ms)
       → Parts i l x r whole (united ms) 79
 
 pub record Making (s w : Bytes) (at left k q i n : ℕ) (ty : Ty) (rest : Bytes) : Type 0 where
@@ -110,7 +110,7 @@ module _ (s w w₁ : Bytes) (at left k n : ℕ) (e : k ≡ get_or s at 0) (c : 4
             acc = mapped ∅ᶠ;
             front = rw z at st.at;
             small = map-small;
-            parts = some-entries fs ∅ᶠ b.0 w.0.0 (second-true (distinct (names fs)) (distinct_names_f fs) w.0.1) (omega (arith, w.1)) (new-start fs y) (ap t_map (sym (set_all_lem fs y)));
+            parts = some_entries fs ∅ᶠ b.0 w.0.0 (second-true (distinct (names fs)) (distinct_names_f fs) w.0.1) (omega (arith, w.1)) (new-start fs y) (ap t_map (sym (set_all_lem fs y)));
             inside = b.1;
             from = omega arith;
             few = omega (arith, st.few);
@@ -122,7 +122,7 @@ module _ (s w w₁ : Bytes) (at left k n : ℕ) (e : k ≡ get_or s at 0) (c : 4
             acc = united [];
             front = rw z at st.at;
             small = union-small;
-            parts = some-members ts [] [] b.0 w.0.0 w.0.1 (omega (arith, w.1)) refl (unfold unite in refl);
+            parts = some_members ts [] [] b.0 w.0.0 w.0.1 (omega (arith, w.1)) refl (unfold unite in refl);
             inside = b.1;
             from = omega arith;
             few = omega (arith, st.few);
@@ -161,8 +161,8 @@ child s q {r = r} {whole} g x (the_one t z e w m) =
       next = λ p d. over (made t) (omega arith) d m;
     }
 child s q {i = i} g x (over u z e m) = absurd (omega (arith, eqb-true i 0 g))
-child s q {r = r} g x (some-entries ∅ᶠ gs e f d h w m) = absurd (not-closed s q r g (x ∙ e))
-child s q {r = r} {whole} g x (some-entries (field n t fs) gs e f d h w m) =
+child s q {r = r} g x (some_entries ∅ᶠ gs e f d h w m) = absurd (not-closed s q r g (x ∙ e))
+child s q {r = r} {whole} g x (some_entries (field n t fs) gs e f d h w m) =
     let p = name-past s q n (line_to t (fields_to fs r)) (x ∙ e) in
     let in-s = p.0 in
     let v : min (next_field s q) (length s) ≡ next_field s q = omega arith in
@@ -178,10 +178,10 @@ child s q {r = r} {whole} g x (some-entries (field n t fs) gs e f d h w m) =
       kind = refl;
       held = rw m (below-trans (set_holds n (made t) gs w.0) grows);
       large = λ o. rw m (below-large grows o);
-      next = λ y g. some-entries fs (set_field n (made t) gs) g f.2 (second-true (distinct_names t) (distinct_names_f fs) d) (omega arith) w.1 m;
+      next = λ y g. some_entries fs (set_field n (made t) gs) g f.2 (second-true (distinct_names t) (distinct_names_f fs) d) (omega arith) w.1 m;
     }
-child s q {r = r} g x (some-members ∅ src ms e f d h z m) = absurd (not-closed s q r g (x ∙ e))
-child s q {r = r} {whole} g x (some-members (t ⊕ ts) src ms e f d h z m) =
+child s q {r = r} g x (some_members ∅ src ms e f d h z m) = absurd (not-closed s q r g (x ∙ e))
+child s q {r = r} {whole} g x (some_members (t ⊕ ts) src ms e f d h z m) =
     let us = inserts (opened (made t)) ms in
     let grows = gather-grows (made_s ts) us in
     record {
@@ -195,7 +195,7 @@ child s q {r = r} {whole} g x (some-members (t ⊕ ts) src ms e f d h z m) =
       kind = refl;
       held = rw m (below-trans (subst (λ (l : List Ty). NoLarger (made t) (joined (inserts (opened (made t)) l))) (sym z) (member-holds t src)) grows);
       large = λ o. rw m (below-large grows (overlong-large us o));
-      next = λ y g. some-members ts (src ++ opened (made t)) us g f.1 (second-true (distinct_names t) (distinct_names_s ts) d) (omega arith)
+      next = λ y g. some_members ts (src ++ opened (made t)) us g f.1 (second-true (distinct_names t) (distinct_names_s ts) d) (omega arith)
           (ap (inserts (opened (made t))) z ∙ sym (inserts-append src (opened (made t)) [])) m;
     }
 
@@ -336,15 +336,15 @@ parts-over : (s : Bytes) (q : ℕ) {k i l : ℕ} {x r : Bytes} {whole : Ty} {a :
 unfolding goes_in fields_to members_to end_of set_all made gather head_to
 parts-over s q {i = i} g x o (the_one t z e w m) = absurd (eqb-false i 0 g z)
 parts-over s q g x o (over u z e m) = record { kind = refl; some = λ h. false≢true (ap is_opening h); is = sym m; behind = x ∙ e; inside = o }
-parts-over s q {r = r} g x o (some-entries ∅ᶠ gs e f d h w m) =
+parts-over s q {r = r} g x o (some_entries ∅ᶠ gs e f d h w m) =
     let c = closed s q g in
     record { kind = refl; some = λ h. false≢true (ap is_opening h); is = sym m; behind = tail-eq (tail-eq (sym c.0 ∙ x ∙ e)); inside = c.1 }
-parts-over s q {r = r} g x o (some-entries (field n t fs) gs e f d h w m) =
+parts-over s q {r = r} g x o (some_entries (field n t fs) gs e f d h w m) =
     absurd (head-name s q n (record { rest = line_to t (fields_to fs r); is = x ∙ e }) (byte_at s q (44 ∷ drop (q + 2) s) 33 (closed s q g).0))
-parts-over s q g x o (some-members ∅ src ms e f d h z m) =
+parts-over s q g x o (some_members ∅ src ms e f d h z m) =
     let c = closed s q g in
     record { kind = refl; some = λ h. false≢true (ap is_opening h); is = sym m; behind = tail-eq (tail-eq (sym c.0 ∙ x ∙ e)); inside = c.1 }
-parts-over s q {r = r} g x o (some-members (t ⊕ ts) src ms e f d h z m) =
+parts-over s q {r = r} g x o (some_members (t ⊕ ts) src ms e f d h z m) =
     absurd (not-mark t (sym (type-byte s q t (members_to ts r) (x ∙ e)) ∙ byte_at s q (44 ∷ drop (q + 2) s) 33 (closed s q g).0))
 
 module _ (s w : Bytes) (at left k q i n : ℕ) (ty : Ty) (rest : Bytes) (m : Making s w at left k q i n ty rest) (g : goes_in k s q i ≡ false) where

@@ -26,7 +26,7 @@ use Rattle.ty.proofs.Lines.{line-to, letter-away, special}
 use Rattle.ty.proofs.NameLaws.{name-long}
 use Rattle.ty.proofs.Places.{past, part, byte_past, byte_at}
 use Rattle.ty.proofs.Skips.{type-inside}
-use Rattle.ty.proofs.Fields.{content_t, content-kind, type-byte, name-part}
+use Rattle.ty.proofs.Fields.{content_t, content-kind, type-byte, name_part}
 use Rattle.ty.proofs.EntryLaws.{front-from, tested-fits, tested-large}
 use Rattle.old_lines.specs.Old.{made, made_labels}
 use Rattle.old.specs.Read.{Within}
@@ -195,7 +195,7 @@ module _ (s : Bytes) (k q : ℕ) (w : Bytes) (n end : ℕ) where
 
   module _ (z : k ≡ 75) (c : ℕ) (x : Bytes) (y : x ≡ slice q c s) (f : c ≡ q + index_of 44 (drop q s)) where
     spelt : (m : Bytes) (rest : Bytes) → drop q s ≡ name_to m rest → x ≡ map hex m
-    spelt m rest d = y ∙ rw f (name-part s q m rest d)
+    spelt m rest d = y ∙ rw f (name_part s q m rest d)
 
     pub entry_ready : SomeJoin s k q w n end → EnteringMap w n end x
     entry_ready p = go p.acc p.join

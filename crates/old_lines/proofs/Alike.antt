@@ -12,7 +12,7 @@ use Rattle.semantics.proofs.Regular.{Ascends}
 use Rattle.unify_run.proofs.Gather.{insert-twice}
 use Rattle.unify_run.proofs.Labels.{name-twice, name-names}
 use Rattle.unify_run.proofs.Maps.{ascends-all}
-use Rattle.old_lines.specs.Old.{without, distinct, distinct_names, distinct_names_s, distinct_names_f, made_labels, made, made_f, or_unknown, choices, choices_s, In, Sub, Same, same-choices, Covers, no-choice, a-choice, Among, this, another, Like, bases, lists, maps, no-labels, labels, relationships, Entries, no-entry, an-entry, Holds, first, later}
+use Rattle.old_lines.specs.Old.{without, distinct, distinct_names, distinct_names_s, distinct_names_f, made_labels, made, made_f, or_unknown, choices, choices_s, In, Sub, Same, same_choices, Covers, no_choice, a_choice, Among, this, another, Like, bases, lists, maps, no_labels, labels, relationships, Entries, no_entry, an_entry, Holds, first, later}
 use Rattle.old_lines.proofs.Made.{made-entries, made-joined}
 
 -- ## Distinct names, all the way down
@@ -240,14 +240,14 @@ mutual
   unfolding inserts made made_labels
 
   pub same-made : {t u : Ty} → Same t u → Ok t → Ok u → made t ≡ made u
-  same-made (same-choices {t} {u} a b) p q =
+  same-made (same_choices {t} {u} a b) p q =
       made-joined t
       ∙ ap joined (sym (covers-made b (choices-ok u q) (choices-ok t p) []) ∙ inserts-swap (map made (choices u)) (map made (choices t)) [] ∙ covers-made a (choices-ok t p) (choices-ok u q) [])
       ∙ sym (made-joined u)
 
   covers-made : {ts us : List Ty} → Covers ts us → All Ok ts → All Ok us → (ms : List Ty) → inserts (map made ts) (inserts (map made us) ms) ≡ inserts (map made us) ms
-  covers-made no-choice p q ms = refl
-  covers-made (a-choice {t} {ts} h c) p q ms = ap (inserts (map made ts)) (among-made h (all_first p) q ms) ∙ covers-made c (all_rest p) q ms
+  covers-made no_choice p q ms = refl
+  covers-made (a_choice {t} {ts} h c) p q ms = ap (inserts (map made ts)) (among-made h (all_first p) q ms) ∙ covers-made c (all_rest p) q ms
 
   among-made : {t : Ty} {us : List Ty} → Among t us → Ok t → All Ok us → (ms : List Ty) → insert (made t) (inserts (map made us) ms) ≡ inserts (map made us) ms
   among-made (this {t} {u} {us} l) p q ms =
@@ -262,13 +262,13 @@ mutual
       let x = map-ok fs p in
       let y = map-ok gs q in
       ap t_map (found-made fs gs x.0 y.0 (entries-made a x.1 y.1) (entries-made b y.1 x.1))
-  like-made no-labels p q = refl
+  like-made no_labels p q = refl
   like-made (labels {ls} {ks} a b) p q = ap (λ (l : List Bytes). t_node (some l)) (labels-made ls ks a b)
   like-made relationships p q = refl
 
   entries-made : {fs gs : Fields} → Entries fs gs → distinct_names_f fs ≡ true → distinct_names_f gs ≡ true → AllFound fs gs
-  entries-made no-entry p q = none_found
-  entries-made (an-entry {n} {t} {fs} h a) p q = let x = field-ok n t fs p in one_found (holds-made h x.0 q) (entries-made a x.1 q)
+  entries-made no_entry p q = none_found
+  entries-made (an_entry {n} {t} {fs} h a) p q = let x = field-ok n t fs p in one_found (holds-made h x.0 q) (entries-made a x.1 q)
 
   holds-made : {n : Bytes} {t : Ty} {gs : Fields} → Holds n t gs → Ok t → distinct_names_f gs ≡ true → Found n (made t) gs
   holds-made (first {n} {t} {u} {gs} s) p q = found (same-made s p (field-ok n u gs q).0)

@@ -170,12 +170,12 @@ module _ {s work out r : Bytes} (g : Gives s work out r) where
   kept =
       let t = whole.ty in
       let (read, stays) = regular-old r (made t) strictly in
-      record { ty = t; other = made t; read = whole.read; read-other = read; same = (old-lines s r t (made t) whole.read read).0 (ap line (sym stays)) }
+      record { ty = t; other = made t; read = whole.read; read_other = read; same = (old-lines s r t (made t) whole.read read).0 (ap line (sym stays)) }
 
 -- ## Calls for lines of one meaning
 
 same-made : (s z : Bytes) (m : MeanSame s z) → made m.ty ≡ made m.other
-same-made s z m = line_eq (made m.ty) (made m.other) ((old-lines s z m.ty m.other m.read m.read-other).1 m.same)
+same-made s z m = line_eq (made m.ty) (made m.other) ((old-lines s z m.ty m.other m.read m.read_other).1 m.same)
 
 calls-alike : (s z work out : Bytes) → MeanSame s z → regular_call s work out ≡ regular_call z work out
 unfolding regular_call regular_of
@@ -191,7 +191,7 @@ calls-alike s z work out m = ap (λ (x : Settled). at x) of-same
     of-same =
         ap (λ (o : Option Ty). regular_of o work out) m.read
         ∙ ap of (same-made s z m)
-        ∙ sym (ap (λ (o : Option Ty). regular_of o work out) m.read-other)
+        ∙ sym (ap (λ (o : Option Ty). regular_of o work out) m.read_other)
 
 -- ## A regular line
 
@@ -215,18 +215,18 @@ line_stays s work out h size room = go (type_line s) refl h
 pub regular-lines : RegularLines
 regular-lines =
     record {
-      equal-same = λ s z work out work' out' r x g h e.
+      equal_same = λ s z work out work' out' r x g h e.
           let t = (whole g).ty in
           let u = (whole h).ty in
           record {
             ty = t;
             other = u;
             read = (whole g).read;
-            read-other = (whole h).read;
+            read_other = (whole h).read;
             same = (old-lines s z t u (whole g).read (whole h).read).0 (sym (gives g) ∙ e ∙ gives h);
           };
-      same-equal = λ s z work out work' out' r x g h m. gives_of g m.ty m.read ∙ ap line (same-made s z m) ∙ sym (gives_of h m.other m.read-other);
-      same-call = calls-alike;
+      same_equal = λ s z work out work' out' r x g h m. gives_of g m.ty m.read ∙ ap line (same-made s z m) ∙ sym (gives_of h m.other m.read_other);
+      same_call = calls-alike;
       stays = line_stays;
       regular = λ s work out r g. ap is_found (strictly g);
       keeps = λ s work out r g. kept g;

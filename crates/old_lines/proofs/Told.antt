@@ -13,7 +13,7 @@ use Rattle.semantics.proofs.All.{All, empty, also, all_append}
 use Rattle.semantics.proofs.Order.{TriTy, lt, eq, gt, tri_ty, Tri, tri, lex-lt, lex-gt, lex-eq, Less, insert-lt, insert-eq, insert-gt, same-eq, same_refl, same-lt, same-gt}
 use Rattle.semantics.proofs.Regular.{Member, inserts-sorted}
 use Rattle.unify_run.proofs.Gather.{opened-joined}
-use Rattle.old_lines.specs.Old.{without, distinct, distinct_names, distinct_names_s, distinct_names_f, made_labels, made, made_f, or_unknown, choices, choices_s, In, Sub, Same, same-choices, Covers, no-choice, a-choice, Among, this, another, Like, bases, lists, maps, no-labels, labels, relationships, Entries, no-entry, an-entry, Holds, first, later}
+use Rattle.old_lines.specs.Old.{without, distinct, distinct_names, distinct_names_s, distinct_names_f, made_labels, made, made_f, or_unknown, choices, choices_s, In, Sub, Same, same_choices, Covers, no_choice, a_choice, Among, this, another, Like, bases, lists, maps, no_labels, labels, relationships, Entries, no_entry, an_entry, Holds, first, later}
 use Rattle.old_lines.proofs.Made.{made-regular, made-joined, Plain, choices-plain}
 use Rattle.old_lines.proofs.Alike.{Ok, choices-ok, first-true, second-true, made_o, get-made, some-eq, get-here, get-past, get-nothing, is_there, map-ok, field-ok, list-ok}
 
@@ -232,18 +232,18 @@ among-telling d p o (also {x = c} q qs) (inl e) = this (q d p o (sym e)).1
 among-telling d p o (also q qs) (inr i) = another (among-telling d p o qs i)
 
 covers-told : {cs : List Ty} → All Q cs → {ds : List Ty} → All Plain ds → All Ok ds → ((c : Ty) → InT c cs → InT (made c) (map made ds)) → Covers cs ds
-covers-told empty p o f = no-choice
-covers-told (also {x = c} q qs) p o f = a-choice (among-told c q p o (f c (inl refl))) (covers-told qs p o (λ x i. f x (inr i)))
+covers-told empty p o f = no_choice
+covers-told (also {x = c} q qs) p o f = a_choice (among-told c q p o (f c (inl refl))) (covers-told qs p o (λ x i. f x (inr i)))
 
 covers-telling : {ds : List Ty} → All Plain ds → All Ok ds → {cs : List Ty} → All Q cs → ((d : Ty) → InT d ds → InT (made d) (map made cs)) → Covers ds cs
-covers-telling empty o q f = no-choice
-covers-telling (also {x = d} p ps) (also o os) q f = a-choice (among-telling d p o q (f d (inl refl))) (covers-telling ps os q (λ x i. f x (inr i)))
+covers-telling empty o q f = no_choice
+covers-telling (also {x = d} p ps) (also o os) q f = a_choice (among-telling d p o q (f d (inl refl))) (covers-telling ps os q (λ x i. f x (inr i)))
 
 tells : (t : Ty) → All Q (choices t) → P t
 tells t q u o e =
     let a = covers-told q (choices-plain u) (choices-ok u o) (meets t u e) in
     let b = covers-telling (choices-plain u) (choices-ok u o) q (meets u t (sym e)) in
-    (same-choices a b, same-choices b a)
+    (same_choices a b, same_choices b a)
 
 -- ## Each kind of type
 
@@ -339,7 +339,7 @@ list_in (some ls) = ls
 
 nodes-told : (ls ks : Option (List Bytes)) → made_labels ls ≡ made_labels ks → Like (t_node ls) (t_node ks)
 unfolding made_labels
-nodes-told none none e = no-labels
+nodes-told none none e = no_labels
 nodes-told none (some ks) e = absurd (false≢true (ap has_labels e))
 nodes-told (some ls) none e = absurd (false≢true (sym (ap has_labels e)))
 nodes-told (some ls) (some ks) e = labels (labels-told ls ks (ap list_in e)) (labels-told ks ls (sym (ap list_in e)))
@@ -407,12 +407,12 @@ holds-telling n u o (field m t fs) h e = go (same n m) refl (holds-telling n u o
     go false p ih = later (ih (sym (ap made_o (get-past n m t fs p)) ∙ e))
 
 entries-told : (fs gs : Fields) → AllP fs → distinct_names_f gs ≡ true → ((n : Bytes) (t : Ty) → Entry n t fs → made_o (get_field n gs) ≡ some (made t)) → Entries fs gs
-entries-told ∅ᶠ gs h o f = no-entry
-entries-told (field n t fs) gs h o f = an-entry (holds-told n t h.0 gs o (f n t (inl (refl, refl)))) (entries-told fs gs h.1 o (λ m u i. f m u (inr i)))
+entries-told ∅ᶠ gs h o f = no_entry
+entries-told (field n t fs) gs h o f = an_entry (holds-told n t h.0 gs o (f n t (inl (refl, refl)))) (entries-told fs gs h.1 o (λ m u i. f m u (inr i)))
 
 entries-telling : (gs fs : Fields) → distinct_names_f gs ≡ true → AllP fs → ((m : Bytes) (u : Ty) → Entry m u gs → made_o (get_field m fs) ≡ some (made u)) → Entries gs fs
-entries-telling ∅ᶠ fs o h f = no-entry
-entries-telling (field m u gs) fs o h f = let x = field-ok m u gs o in an-entry (holds-telling m u x.0 fs h (f m u (inl (refl, refl)))) (entries-telling gs fs x.1 h (λ n t i. f n t (inr i)))
+entries-telling ∅ᶠ fs o h f = no_entry
+entries-telling (field m u gs) fs o h f = let x = field-ok m u gs o in an_entry (holds-telling m u x.0 fs h (f m u (inl (refl, refl)))) (entries-telling gs fs x.1 h (λ n t i. f n t (inr i)))
 
 abbrev fields_in : Ty → Fields
 fields_in (t_map fs) = fs

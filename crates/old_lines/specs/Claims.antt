@@ -13,7 +13,7 @@ pub record MeanSame (s z : Bytes) : Type 0 where
   pub ty : Ty
   pub other : Ty
   pub read : old_line s ≡ some ty
-  pub read-other : old_line z ≡ some other
+  pub read_other : old_line z ≡ some other
   pub same : Same ty other
 
 -- the call accepts the old line s and gives the bytes r
@@ -23,10 +23,10 @@ pub record Gives (s work out r : Bytes) : Type 0 where
 
 pub record RegularLines : Type 0 where
   -- "Two accepted old lines give equal bytes exactly when they mean the same"
-  pub equal-same : (s z work out work' out' r x : Bytes) → Gives s work out r → Gives z work' out' x → r ≡ x → MeanSame s z
-  pub same-equal : (s z work out work' out' r x : Bytes) → Gives s work out r → Gives z work' out' x → MeanSame s z → r ≡ x
+  pub equal_same : (s z work out work' out' r x : Bytes) → Gives s work out r → Gives z work' out' x → r ≡ x → MeanSame s z
+  pub same_equal : (s z work out work' out' r x : Bytes) → Gives s work out r → Gives z work' out' x → MeanSame s z → r ≡ x
   -- the same for whole calls, refused with 6 or not: lines that mean the same cannot be told apart by the answer
-  pub same-call : (s z work out : Bytes) → MeanSame s z → regular_call s work out ≡ regular_call z work out
+  pub same_call : (s z work out : Bytes) → MeanSame s z → regular_call s work out ≡ regular_call z work out
   -- a regular line within the limits comes out as it went in (RULES 10.3)
   pub stays : (s work out : Bytes) → is_found (type_line s) ≡ true → length work ≡ work_size → old_output ≤ length out → Gives s work out s
   -- what is written is a regular line, and means what the old line means

@@ -30,7 +30,7 @@ use Rattle.exprs.specs.declared.state.Ended.{Ended}
 use Rattle.exprs.specs.declared.state.Ended.TheVariants.{Large}
 use Rattle.exprs.specs.End.{Ends, Settles, TwoAt, SomeTwo}
 use Rattle.operators.specs.Helpers.{SomeKinds}
-use Rattle.exprs.proofs.States.{first-at, second_at}
+use Rattle.exprs.proofs.States.{first_at, second_at}
 
 -- ## The operands of two types that are kept
 
@@ -38,7 +38,7 @@ module _ {a b : Ty} {s : Bytes} {st : Accumulator} (h : TwoAt a b s st) where
   pub left-operand : Operand s 0 st.len (st.len + st.second) a
   left-operand =
       let f = h.at.fine.0 in
-      record { at = first-at h.at; below = omega arith; regular = f.regular; small = f.small }
+      record { at = first_at h.at; below = omega arith; regular = f.regular; small = f.small }
 
   pub right_operand : Operand s st.len (st.len + st.second) (st.len + st.second) b
   right_operand =
@@ -46,7 +46,7 @@ module _ {a b : Ty} {s : Bytes} {st : Accumulator} (h : TwoAt a b s st) where
       record { at = second_at h.at; below = omega arith; regular = f.regular; small = f.small }
 
   pub left-kind : kind_of a ≡ get_or s 0 0
-  left-kind = sym (kind_at s 0 st.len a (first-at h.at))
+  left-kind = sym (kind_at s 0 st.len a (first_at h.at))
 
   pub right-kind : kind_of b ≡ get_or s st.len 0
   right-kind = sym (kind_at s st.len (st.len + st.second) b (second_at h.at))
@@ -59,7 +59,7 @@ two-kinds p = record { first = record { ty = p.left; is = left-kind p.at }; seco
 
 pub two-inside : {s : Bytes} {st : Accumulator} → SomeTwo s st → (2 ≤ st.len) × (st.len + 2 ≤ st.len + st.second) × (st.len + st.second ≤ length s)
 two-inside {s} {st} p =
-    let f = first-at p.at.at in
+    let f = first_at p.at.at in
     let g = second_at p.at.at in
     (omega (arith, two_at s 0 st.len p.left f), two_at s st.len (st.len + st.second) p.right g, g.inside)
 

@@ -1,5 +1,5 @@
 -- A call's answer beside the stored one. Assumes nothing.
-use Rattle.std.proofs.Common.{◌≡◌, ℕ, Bool, true, false, eqb, length, replicate, refl, ap, ◌∙◌, ap₂, eqb-true}
+use Rattle.std.proofs.Common.{◌≡◌, Bool, true, false, eqb, length, replicate, refl, ap, ◌∙◌, ap₂, eqb-true}
 use borrow.Author.Tests.{eqb-false}
 use Rattle.semantics.specs.Bytes.{Bytes}
 use Rattle.semantics.specs.Calls.{Settled}

@@ -13,7 +13,7 @@ use Rattle.semantics.specs.Bytes.{Bytes, text}
 use Rattle.semantics.specs.Sheet.{ret_word, pro_word, end_word, bool_word, int_word, str_word, var_word, bin_word, lis_word, map_word, key_word, case_word, exi_word, Head}
 use Rattle.semantics.specs.Calls.{refusal, outcome}
 use Rattle.semantics.proofs.Run.{run, run_sheet}
-use Rattle.rewording.specs.Reword.{mk, a_string, value, reworded, renumber, variables, with-variable, OneToOne, insert_binding, in_ascending_order, Whole, done, grown, no-entry, Distinct, operands, arms, entries, Reword, Chain, here, link, Reports, Agree, with_bindings}
+use Rattle.rewording.specs.Reword.{mk, a_string, value, reworded, renumber, variables, with_variable, OneToOne, insert_binding, in_ascending_order, Whole, done, grown, no_entry, Distinct, operands, arms, entries, Reword, Chain, here, link, Reports, Agree, with_bindings}
 use Rattle.rewording.proofs.Theorem.{demand-three}
 
 -- buffers that are lent
@@ -63,8 +63,8 @@ var n = mk var_word (some n) [] []
 abbrev and : Head
 and = mk bin_word none (12 ∷ []) []
 
-abbrev case-two : Head
-case-two = mk case_word none (0 ∷ 2 ∷ []) []
+abbrev case_two : Head
+case_two = mk case_word none (0 ∷ 2 ∷ []) []
 
 abbrev key : ℕ → Head
 key d = mk key_word none [] (6 ∷ d ∷ [])
@@ -77,7 +77,7 @@ abbrev end : List Head
 end = mk end_word none [] [] ∷ []
 
 abbrev body : List Head
-body = opened ++ (key 1 ∷ and ∷ var 1 ∷ int 5 ∷ key 2 ∷ case-two ∷ bool 1 ∷ str (6 ∷ 1 ∷ []) ∷ var 2 ∷ int 7 ∷ end)
+body = opened ++ (key 1 ∷ and ∷ var 1 ∷ int 5 ∷ key 2 ∷ case_two ∷ bool 1 ∷ str (6 ∷ 1 ∷ []) ∷ var 2 ∷ int 7 ∷ end)
 
 abbrev front : List Head
 front = with_bindings ((3, 3) ∷ (9, 0) ∷ []) opened
@@ -101,7 +101,7 @@ apart two one e = absurd (omega arith)
 apart two two e = refl
 
 one-to-one : OneToOne renamed (variables (with_bindings ((1, 0) ∷ (2, 3) ∷ []) body))
-unfolding variables with-variable
+unfolding variables with_variable
 one-to-one v w i j e = apart (one-or-two i) (one-or-two j) e
 
 -- the names 61 and 62 differ
@@ -123,16 +123,16 @@ unfolding run insert_binding in_ascending_order
 joined =
     link {t = numbered} refl refl (inl (renumber renamed ((1, 0) ∷ (2, 3) ∷ []) body refl one-to-one))
     (link {t = valued} refl refl
-    (inl (reworded (front ++ (key 1 ∷ and ∷ var 9 ∷ int 5 ∷ key 2 ∷ case-two ∷ bool 1 ∷ [])) (var 3 ∷ int 7 ∷ end) (value a_string [] [] (6 ∷ 1 ∷ []) [])))
+    (inl (reworded (front ++ (key 1 ∷ and ∷ var 9 ∷ int 5 ∷ key 2 ∷ case_two ∷ bool 1 ∷ [])) (var 3 ∷ int 7 ∷ end) (value a_string [] [] (6 ∷ 1 ∷ []) [])))
     (link {t = swapped} refl refl
-    (inr (operands (front ++ (key 1 ∷ [])) (key 2 ∷ case-two ∷ bool 1 ∷ str [] ∷ var 3 ∷ int 7 ∷ end) (var 9 ∷ []) (int 5 ∷ []) (12 ∷ []) (grown (var 9) done) (grown (int 5) done)))
+    (inr (operands (front ++ (key 1 ∷ [])) (key 2 ∷ case_two ∷ bool 1 ∷ str [] ∷ var 3 ∷ int 7 ∷ end) (var 9 ∷ []) (int 5 ∷ []) (12 ∷ []) (grown (var 9) done) (grown (int 5) done)))
     (link {t = turned} refl refl
     (inr (arms (front ++ (key 1 ∷ and ∷ int 5 ∷ var 9 ∷ key 2 ∷ [])) end [] (bool 1 ∷ str [] ∷ []) [] (var 3 ∷ int 7 ∷ []) 0 2 0 0 done
     (grown (bool 1) (grown (str []) done)) done (grown (var 3) (grown (int 7) done)) (omega arith)))
     (link {t = last} refl refl
     (inr (entries (with_bindings ((3, 3) ∷ (9, 0) ∷ []) (mk ret_word none (0 ∷ 1 ∷ []) [] ∷ mk pro_word none (1 ∷ []) (6 ∷ 1 ∷ []) ∷ [])) end [] (and ∷ int 5 ∷ var 9 ∷ []) []
-    (case-two ∷ var 3 ∷ int 7 ∷ bool 1 ∷ str [] ∷ []) [] (6 ∷ 1 ∷ []) (6 ∷ 2 ∷ []) [] [] [] 2 no-entry (grown and (grown (int 5) (grown (var 9) done))) no-entry
-    (grown case-two (grown (var 3) (grown (int 7) (grown (bool 1) (grown (str []) done))))) no-entry names-differ refl))
+    (case_two ∷ var 3 ∷ int 7 ∷ bool 1 ∷ str [] ∷ []) [] (6 ∷ 1 ∷ []) (6 ∷ 2 ∷ []) [] [] [] 2 no_entry (grown and (grown (int 5) (grown (var 9) done))) no_entry
+    (grown case_two (grown (var 3) (grown (int 7) (grown (bool 1) (grown (str []) done))))) no_entry names-differ refl))
     (here last)))))
 
 first-report : Reports start (text "F,2011,Node\nF,2011,Int\nT,K,61,C,62,O,D,G,!,!,\nend,1,2\n")
@@ -194,8 +194,8 @@ small-whole = grown (mk case_word none (2 ∷ 1 ∷ []) []) (grown (bool 1) (gro
 abbrev ret : List Head
 ret = with_bindings [] (mk ret_word none (0 ∷ 1 ∷ []) [] ∷ mk pro_word none (0 ∷ []) [] ∷ [])
 
-abbrev before-list : Bytes
-before-list = comparing (large_text "str,61\n") small_text
+abbrev before_list : Bytes
+before_list = comparing (large_text "str,61\n") small_text
 
 abbrev after_list : Bytes
 after_list = comparing (large_text "str,62\n") small_text
@@ -209,7 +209,7 @@ between-2 : outcome (comparing small_text (large_text "str,62\n")) ≡ refusal 6
 unfolding run
 between-2 = refl
 
-through-refused : Chain Reword before-list after_list
+through-refused : Chain Reword before_list after_list
 unfolding run
 through-refused =
     link {t = comparing small_text (large_text "str,61\n")} refl refl (inr (operands ret end (large (6 ∷ 1 ∷ [])) small (8 ∷ []) (large-whole (6 ∷ 1 ∷ [])) small-whole))
@@ -220,7 +220,7 @@ through-refused =
     (link {t = after_list} refl refl (inr (operands ret end small (large (6 ∷ 2 ∷ [])) (8 ∷ []) small-whole (large-whole (6 ∷ 2 ∷ []))))
     (here after_list)))
 
-before-report : Reports before-list (text "T,C,\nend,1,0\n")
+before-report : Reports before_list (text "T,C,\nend,1,0\n")
 unfolding run_sheet
 before-report = record { work = work; out = out; accepts = refl; text = refl }
 

@@ -13,7 +13,7 @@ use Rattle.semantics.specs.Ty.{Ty, unite, Fields, ∅ᶠ, t_map, set_field}
 use Rattle.semantics.specs.Sheet.{case_word, map_word, key_word, Head, entry_place, Role, plain, condition, answer, inner, low, high, present, arm_roles, row, roles, arity}
 use Rattle.semantics.specs.Walk.{Res, Env, answers, mapped, named, tys, spread, type_by, type_of, own_by, own, tops_by, label, step, walk}
 use Rattle.semantics.proofs.Order.{unite-exchange, set-swap}
-use Rattle.rewording.specs.Reword.{mk, Whole, done, grown, Entries, no-entry, entry, Distinct, Each, no_more}
+use Rattle.rewording.specs.Reword.{mk, Whole, done, grown, Entries, no_entry, entry, Distinct, Each, no_more}
 use Rattle.rewording.proofs.Congruence.{each-length, Like, Same, count-append, same_ok, named-eq, spread-like, walk-self, whole_length, whole-walk, StepSwap}
 
 -- ## Roles in parts
@@ -110,9 +110,9 @@ record CaseParts (f c i j : ℕ) : Type 0 where
   ms : List Role
   qs : List Role
   is : roles (mk case_word none (f ∷ c ∷ []) []) ≡ ps ++ (g ++ (ms ++ (g ++ qs)))
-  ps-length : length ps ≡ low f + 2 * i
-  g-length : length g ≡ 2
-  ms-length : length ms ≡ 2 * j
+  ps_length : length ps ≡ low f + 2 * i
+  g_length : length g ≡ 2
+  ms_length : length ms ≡ 2 * j
 
 case-parts : (f c i j : ℕ) → i + (j + 2) ≤ c → CaseParts f c i j
 unfolding roles row
@@ -128,18 +128,18 @@ case-parts f c i j le =
       ms = arm_roles a j [];
       qs = arm_roles a k r;
       is = present-append (low f) plain (arm_roles a c r) (arm_roles a i []) _ (arms-split a c i j k r e);
-      ps-length = present-length (low f) plain (arm_roles a i []) lt ∙ ap (λ z. low f + z) (arms-length a i);
-      g-length = refl;
-      ms-length = arms-length a j;
+      ps_length = present-length (low f) plain (arm_roles a i []) lt ∙ ap (λ z. low f + z) (arms-length a i);
+      g_length = refl;
+      ms_length = arms-length a j;
     }
 
 pub case-arity : (f c i j : ℕ) → i + (j + 2) ≤ c → (low f + 2 * i) + (2 + (2 * j + 2)) ≤ arity (mk case_word none (f ∷ c ∷ []) [])
 unfolding arity
 case-arity f c i j le =
     let p = case-parts f c i j le in
-    let a = p.ps-length in
-    let b = p.g-length in
-    let d = p.ms-length in
+    let a = p.ps_length in
+    let b = p.g_length in
+    let d = p.ms_length in
     rw p.is (simp length-append (omega arith))
 
 pub case_step : (env : Env) (f c i j : ℕ) (s x m y : List Head) → Whole (low f + 2 * i) s → Whole 2 x → Whole (2 * j) m → Whole 2 y → i + (j + 2) ≤ c
@@ -151,10 +151,10 @@ case_step env f c i j s x m y u v w t le n n' a b d o a' b' d' o' r r' er =
     let ep = walk-self same_ok env x b o' in
     let em = walk-self same_ok env m d d' in
     let eq = walk-self same_ok env y o b' in
-    let hl = p.ps-length ∙ sym (whole_length env a u) in
-    let hp = p.g-length ∙ sym (whole_length env b v) in
-    let hm = p.ms-length ∙ sym (whole_length env d w) in
-    let hq = p.g-length ∙ sym (whole_length env o t) in
+    let hl = p.ps_length ∙ sym (whole_length env a u) in
+    let hp = p.g_length ∙ sym (whole_length env b v) in
+    let hm = p.ms_length ∙ sym (whole_length env d w) in
+    let hq = p.g_length ∙ sym (whole_length env o t) in
     record {
       name = refl;
       ty = rw p.is (answers-swap p.ps p.g p.ms p.qs el ep em eq er hl hp hm hq);
@@ -216,7 +216,7 @@ unfolding arity roles row
 key-whole n w = grown (mk key_word none [] n) w
 
 pub entries-whole : {ns : List Bytes} {hs : List Head} → Entries ns hs → Whole (length ns) hs
-entries-whole no-entry = done
+entries-whole no_entry = done
 entries-whole (entry n {ns = ns} w es) = let e : 1 + length ns ≡ suc (length ns) = omega arith in rw e at (whole_append (key-whole n w) (entries-whole es))
 
 key-walk : (env : Env) (i : ℕ) (n : Bytes) {x : List Head} → Whole 1 x → (r : Res) × (walk env i (mk key_word none [] n ∷ x) ≡ r ∷ []) × (r.name ≡ n)
@@ -227,7 +227,7 @@ key-walk env i n {x} w =
     (r, ap (λ z. r ∷ z) (drop_of_length-le (walk env (suc i) x) {i = 1} (omega arith)), refl)
 
 entries-names : (env : Env) (i : ℕ) {ns : List Bytes} {hs : List Head} → Entries ns hs → map_l name_of (named (walk env i hs)) ≡ ns
-entries-names env i no-entry = unfold walk in refl
+entries-names env i no_entry = unfold walk in refl
 entries-names env i (entry n {x} {hs} w es) =
     let (r, p, q) = key-walk env i n w in
     let j = length (mk key_word none [] n ∷ x) + i in

@@ -15,7 +15,7 @@ use Rattle.semantics.specs.Walk.{Fault, fault_2009, fault_2010, fault_2011, faul
 use Rattle.semantics.specs.Calls.{type_name, fault_text, fault_line, top_line, fault_count, end_line, top_lines, report_lines, report}
 use Rattle.semantics.proofs.Order.{hex-low}
 use Rattle.semantics.proofs.All.{All, empty, also, all_append, either}
-use Rattle.rewording.specs.Reword.{pieces, type_lines, into-first, fault_groups, last_line, occurrences, EachAsOften, Each, no_more, more, Agree}
+use Rattle.rewording.specs.Reword.{pieces, type_lines, into_first, fault_groups, last_line, occurrences, EachAsOften, Each, no_more, more, Agree}
 use Rattle.rewording.proofs.Congruence.{count_if, Same, TopLike, each_append, each-length}
 
 -- ## No LF in a line
@@ -206,7 +206,7 @@ groups-after (f ∷ fs) t r = front-group f fs t r (groups-after fs t r)
   where
     front-group : (f : Fault) (fs : List Fault) (t : Ty) (r : List Bytes) → fault_groups (map_l fault_line fs ++ (top_line t ∷ r)) ≡ map_l fault_line fs ∷ fault_groups r
         → fault_groups (map_l fault_line (f ∷ fs) ++ (top_line t ∷ r)) ≡ map_l fault_line (f ∷ fs) ∷ fault_groups r
-    front-group f fs t r ih = unfold fault_groups into-first fault_line in (ap (into-first (fault_line f)) ih)
+    front-group f fs t r ih = unfold fault_groups into_first fault_line in (ap (into_first (fault_line f)) ih)
 
 groups-of-end : (ts : List Top) → fault_groups (end_line ts ∷ [] ∷ []) ≡ [] ∷ []
 unfolding fault_groups end_line text

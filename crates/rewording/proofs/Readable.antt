@@ -19,7 +19,7 @@ use Rattle.rewording.specs.Reword.{mk, binding_line, with_bindings}
 
 data Placed : Word → Type 0 where
   a_first : Placed cyrs_word
-  a-binding : Placed b_word
+  a_binding : Placed b_word
   another : {w : Word} → eqb (rank (row w).place) 0 ≡ false → eqb (rank (row w).place) 1 ≡ false → Placed w
 
 first_word : (w : Word) → eqb (rank (row w).place) 0 ≡ true → w ≡ cyrs_word
@@ -35,7 +35,7 @@ placed w = go (eqb (rank (row w).place) 0) refl (eqb (rank (row w).place) 1) ref
   where
     go : (a : Bool) → eqb (rank (row w).place) 0 ≡ a → (b : Bool) → eqb (rank (row w).place) 1 ≡ b → Placed w
     go true d b e = subst Placed (sym (first_word w d)) a_first
-    go false d true e = subst Placed (sym (binding-word w e)) a-binding
+    go false d true e = subst Placed (sym (binding-word w e)) a_binding
     go false d false e = another d e
 
 -- ## The first line
@@ -132,8 +132,8 @@ fill-word w h (f ∷ fs) [] e = tt
 fill-word w h (f ∷ fs) (x ∷ xs) e = into-word w h (value f h.nums x) (λ k. fill k fs xs) e (λ k p. fill-word w k fs xs p)
 
 pub record Forms (h : Head) : Type 0 where
-  pub first-form : eqb (rank (place h)) 0 ≡ true → h ≡ mk cyrs_word none (1 ∷ []) []
-  pub binding-form : eqb (rank (place h)) 1 ≡ true → (b : ℕ × ℕ) × (h ≡ binding_line b)
+  pub first_form : eqb (rank (place h)) 0 ≡ true → h ≡ mk cyrs_word none (1 ∷ []) []
+  pub binding_form : eqb (rank (place h)) 1 ≡ true → (b : ℕ × ℕ) × (h ≡ binding_line b)
 
 abbrev OkForms : Read → Type 0
 OkForms (bad c) = Unit {0}
@@ -142,7 +142,7 @@ OkForms (ok h) = Forms h
 first-forms : (r : Read) → First r → OkForms r
 unfolding row rank
 first-forms (bad c) p = tt
-first-forms (ok h) p = rw p (record { first-form = λ e. refl; binding-form = λ e. absurd (false≢true e) })
+first-forms (ok h) p = rw p (record { first_form = λ e. refl; binding_form = λ e. absurd (false≢true e) })
 
 binding-forms : (r : Read) → Bound r → OkForms r
 unfolding row rank
@@ -150,18 +150,18 @@ binding-forms (bad c) p = tt
 binding-forms (ok h) p = go p.0 p.1
   where
     go : (b : ℕ × ℕ) → h ≡ binding_line b → Forms h
-    go b e = rw e (record { first-form = λ e. absurd (false≢true e); binding-form = λ e. (b, refl) })
+    go b e = rw e (record { first_form = λ e. absurd (false≢true e); binding_form = λ e. (b, refl) })
 
 other-forms : (w : Word) (r : Read) → OfWord w r → eqb (rank (row w).place) 0 ≡ false → eqb (rank (row w).place) 1 ≡ false → OkForms r
 other-forms w (bad c) p a b = tt
 other-forms w (ok h) p a b =
     let f : eqb (rank (place h)) 0 ≡ false = ap (λ (v : Word). eqb (rank (row v).place) 0) p ∙ a in
     let g : eqb (rank (place h)) 1 ≡ false = ap (λ (v : Word). eqb (rank (row v).place) 1) p ∙ b in
-    record { first-form = λ e. absurd (false≢true (sym f ∙ e)); binding-form = λ e. absurd (false≢true (sym g ∙ e)) }
+    record { first_form = λ e. absurd (false≢true (sym f ∙ e)); binding_form = λ e. absurd (false≢true (sym g ∙ e)) }
 
 fill-forms : (w : Word) → Placed w → (xs : List Bytes) → OkForms (fill (bare w) (row w).fields xs)
 fill-forms w a_first xs = unfold row in (first-forms (fill (bare cyrs_word) (range 1 1 ∷ []) xs) (first-fill xs))
-fill-forms w a-binding xs = unfold row in (binding-forms (fill (bare b_word) (variable ∷ letter ∷ []) xs) (binding-fill xs))
+fill-forms w a_binding xs = unfold row in (binding-forms (fill (bare b_word) (variable ∷ letter ∷ []) xs) (binding-fill xs))
 fill-forms w (another a b) xs = other-forms w (fill (bare w) (row w).fields xs) (fill-word w (bare w) (row w).fields xs refl) a b
 
 -- ## The lines of a sheet
@@ -250,7 +250,7 @@ module _ (d v n : ℕ) (ls : List Bytes) (ih : (w : ℕ) (ks : List Head) → ch
           subst (λ (z : Head). Form (z ∷ ks)) (sym q) (binding-step b ks e')
 
       go : (x : Bool) → eqb (rank (place h)) 1 ≡ x → Form (h ∷ ks)
-      go true b = let q = p.1.binding-form b in of q.0 q.1
+      go true b = let q = p.1.binding_form b in of q.0 q.1
       go false b = record { bs = []; body = h ∷ ks; is = refl; free = ends-bindings d v h ks p.0 b }
 
   carried-form : (r : Read) → Passed (bindings v d) r → (hs : List Head) → carry n r (λ h. check (under (bindings v d) h ++ []) (suc n) ls) ≡ heads hs → Form hs
@@ -284,7 +284,7 @@ unfolding carry fits
 first-carried d ls (bad c) p hs e = let z : ◌≡◌ {A = ℕ} 0 1 = cc in absurd (omega arith)
 first-carried d ls (ok h) p hs e =
     let (ks, q, is) = add-heads h (check (under (first d) h ++ []) 2 ls) hs e in
-    let h-is : h ≡ mk cyrs_word none (1 ∷ []) [] = p.1.first-form p.0 in
+    let h-is : h ≡ mk cyrs_word none (1 ∷ []) [] = p.1.first_form p.0 in
     let q' : check (under (first d) (mk cyrs_word none (1 ∷ []) []) ++ []) 2 ls ≡ heads ks = sym (ap (λ (z : Head). check (under (first d) z ++ []) 2 ls) h-is) ∙ q in
     let f = bindings-form ls d 0 2 ks (rw (after_first d) at q') in
     record { bs = f.bs; body = f.body; is = is ∙ ap (λ (z : Head). z ∷ ks) h-is ∙ ap (λ (z : List Head). mk cyrs_word none (1 ∷ []) [] ∷ z) f.is; free = f.free }

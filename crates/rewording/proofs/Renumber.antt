@@ -11,7 +11,7 @@ use Rattle.semantics.specs.Bytes.{Bytes}
 use Rattle.semantics.specs.Ty.{Ty}
 use Rattle.semantics.specs.Sheet.{Head, num, Role, Typing, constant, var_type, element, slice, listing, mapping, calling, operator, unary, casing, membership, comprehension, Rule, silent, entering, typed, row, rank, place, rule, roles, arity}
 use Rattle.semantics.specs.Walk.{Env, kind_type, var_type_in, var_type_of, Res, named, type_by, type_of, own_by, own, step, walk, binds, bound_by, bound, env_of, results, tops, tops_by, all_tops, typing}
-use Rattle.rewording.specs.Reword.{renumber_optional, renumbered, with-variable, variables, OneToOne, binding_line, insert_binding, in_ascending_order, renumbered_binding, with_bindings, Each, no_more, more}
+use Rattle.rewording.specs.Reword.{renumber_optional, renumbered, with_variable, variables, OneToOne, binding_line, insert_binding, in_ascending_order, renumbered_binding, with_bindings, Each, no_more, more}
 use Rattle.rewording.proofs.Congruence.{each_take, each-drop, Rel, Respects, TopLike, Like, named-eq, all-tops, of_eq, spread-like, tops-by-like}
 
 abbrev Bindings : Type 0
@@ -79,13 +79,13 @@ type-renumbered f v (x ∷ bs) d = go (type-renumbered f v bs (λ y i. d y (Mem�
 abbrev SayAlike : (ℕ → ℕ) → Env → Env → List ℕ → Type 0
 SayAlike f env env' vs = (v : ℕ) → Memᴰ v vs → var_type_in v env.bindings ≡ var_type_in (f v) env'.bindings
 
-var-renumbered : (f : ℕ → ℕ) (env env' : Env) (v : Option ℕ) (vs : List ℕ) → SayAlike f env env' (with-variable v vs) → var_type_of v env ≡ var_type_of (renumber_optional f v) env'
-unfolding var_type_of with-variable
+var-renumbered : (f : ℕ → ℕ) (env env' : Env) (v : Option ℕ) (vs : List ℕ) → SayAlike f env env' (with_variable v vs) → var_type_of v env ≡ var_type_of (renumber_optional f v) env'
+unfolding var_type_of with_variable
 var-renumbered f env env' none vs k = refl
 var-renumbered f env env' (some v) vs k = k v (Memᴰ.head refl)
 
 module _ (f : ℕ → ℕ) (env env' : Env) (h : Head) where
-  by-renumbered : (t : Typing) (ps : List Role) (es : List (Bytes × Ty)) (vs : List ℕ) → SayAlike f env env' (with-variable h.var vs) → type_by t env h ps es ≡ type_by t env' (renumbered f h) ps es
+  by-renumbered : (t : Typing) (ps : List Role) (es : List (Bytes × Ty)) (vs : List ℕ) → SayAlike f env env' (with_variable h.var vs) → type_by t env h ps es ≡ type_by t env' (renumbered f h) ps es
   unfolding type_by
   by-renumbered (constant t) ps es vs k = refl
   by-renumbered var_type ps es vs k = var-renumbered f env env' h.var vs k
@@ -100,7 +100,7 @@ module _ (f : ℕ → ℕ) (env env' : Env) (h : Head) where
   by-renumbered membership ps es vs k = refl
   by-renumbered comprehension ps es vs k = refl
 
-  of-renumbered : (q : Rule) (ps : List Role) (es : List (Bytes × Ty)) (vs : List ℕ) → SayAlike f env env' (with-variable h.var vs) → type_of q env h ps es ≡ type_of q env' (renumbered f h) ps es
+  of-renumbered : (q : Rule) (ps : List Role) (es : List (Bytes × Ty)) (vs : List ℕ) → SayAlike f env env' (with_variable h.var vs) → type_of q env h ps es ≡ type_of q env' (renumbered f h) ps es
   unfolding type_of
   of-renumbered silent ps es vs k = refl
   of-renumbered entering ps es vs k = refl
@@ -129,13 +129,13 @@ own-renumbered f (typed t) h es = own-by-renumbered f t h es
 
 -- ## All lines
 
-variables-tail : {v : ℕ} (o : Option ℕ) (vs : List ℕ) → Memᴰ v vs → Memᴰ v (with-variable o vs)
-unfolding with-variable
+variables-tail : {v : ℕ} (o : Option ℕ) (vs : List ℕ) → Memᴰ v vs → Memᴰ v (with_variable o vs)
+unfolding with_variable
 variables-tail none vs i = i
 variables-tail (some w) vs i = Memᴰ.tail i
 
 module _ {S : Rel} (ok : Respects S) (f : ℕ → ℕ) (env env' : Env) where
-  step-renumbered : (n m : ℕ) (h : Head) (vs : List ℕ) {rs ss : List Res} → SayAlike f env env' (with-variable h.var vs) → Each (Like S) rs ss
+  step-renumbered : (n m : ℕ) (h : Head) (vs : List ℕ) {rs ss : List Res} → SayAlike f env env' (with_variable h.var vs) → Each (Like S) rs ss
       → Like S (step env n h rs) (step env' m (renumbered f h) ss)
   unfolding step roles
   step-renumbered n m h vs {rs} {ss} k e =
@@ -178,9 +178,9 @@ at_other : (p : ℕ) → eqb p 0 ≡ false → eqb p 1 ≡ false → (w : Option
 unfolding bound_by
 at_other p x y w k c = rw (x, y, bound_by)
 
-no-binding : (p : ℕ) (f : ℕ → ℕ) (v : Option ℕ) (k : ℕ) (a b : Bindings) → (a ≡ [] → b ≡ []) → bound_by p v k a ≡ [] → bound_by p (renumber_optional f v) k b ≡ []
+no_binding : (p : ℕ) (f : ℕ → ℕ) (v : Option ℕ) (k : ℕ) (a b : Bindings) → (a ≡ [] → b ≡ []) → bound_by p v k a ≡ [] → bound_by p (renumber_optional f v) k b ≡ []
 unfolding binds
-no-binding p f v k a b ih e = go (eqb p 0) (eqb p 1) refl refl
+no_binding p f v k a b ih e = go (eqb p 0) (eqb p 1) refl refl
   where
     bind : (w : Option ℕ) → binds w k a ≡ [] → binds (renumber_optional f w) k b ≡ []
     bind none d = ih d
@@ -194,21 +194,21 @@ no-binding p f v k a b ih e = go (eqb p 0) (eqb p 1) refl refl
 bound-renumbered : (f : ℕ → ℕ) (body : List Head) → bound body ≡ [] → bound (map_l (renumbered f) body) ≡ []
 unfolding bound
 bound-renumbered f [] e = refl
-bound-renumbered f (h ∷ hs) e = no-binding (rank (place h)) f h.var (num h 0) (bound hs) (bound (map_l (renumbered f) hs)) (bound-renumbered f hs) e
+bound-renumbered f (h ∷ hs) e = no_binding (rank (place h)) f h.var (num h 0) (bound hs) (bound (map_l (renumbered f) hs)) (bound-renumbered f hs) e
 
 variables-body : {v : ℕ} (bs : Bindings) (body : List Head) → Memᴰ v (variables body) → Memᴰ v (variables (map_l binding_line bs ++ body))
-unfolding variables with-variable
+unfolding variables with_variable
 variables-body [] body m = m
 variables-body (b ∷ bs) body m = Memᴰ.tail (variables-body bs body m)
 
 variables-bound : {x : ℕ × ℕ} {bs : Bindings} (body : List Head) → Memᴰ x bs → Memᴰ x.0 (variables (map_l binding_line bs ++ body))
-unfolding variables with-variable
+unfolding variables with_variable
 variables-bound body (Memᴰ.head e) = Memᴰ.head (ap (λ (z : ℕ × ℕ). z.0) e)
 variables-bound body (Memᴰ.tail m) = Memᴰ.tail (variables-bound body m)
 
 pub renumber-agrees : {S : Rel} (ok : Respects S) (f : ℕ → ℕ) (bs : Bindings) (body : List Head) → bound body ≡ [] → OneToOne f (variables (with_bindings bs body))
     → Each (TopLike S) (typing (with_bindings bs body)) (typing (with_bindings (in_ascending_order (map_l (renumbered_binding f) bs)) (map_l (renumbered f) body)))
-unfolding typing results walk step arity roles row tops tops_by all_tops variables with-variable
+unfolding typing results walk step arity roles row tops tops_by all_tops variables with_variable
 renumber-agrees ok f bs body e inj =
     let cs = in_ascending_order (map_l (renumbered_binding f) bs) in
     let env : Env = env_of (with_bindings bs body) in

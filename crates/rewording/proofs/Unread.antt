@@ -14,7 +14,7 @@ use Rattle.semantics.specs.Builtins.{lookup, lookup_in, builtins}
 use Rattle.semantics.specs.Sheet.{Head, num, place, row, rank, roles, arity, heads, sheet}
 use Rattle.semantics.specs.Walk.{Res, Env, type_of, type_by, own, own_by, last_tests, last_by, label, tops_by, step, walk, bound, bound_by, env_of, results, all_tops, all_tests, typing}
 use Rattle.semantics.specs.Calls.{Settled, untouched, settled, accepted, first_large, outcome, judged, limited, sheet_call}
-use Rattle.rewording.specs.Reword.{a_bool, an_int, a_float, a_string, in-str, in-par, in-unr, in-prop, in-cop, in-com, in-sho, in-ali, in-lab, in-sp, in-rp, in-cal, SameFunction, Line, value, unread, alias, function, Each, no_more, more, Alike, same_line, other, Secrecy}
+use Rattle.rewording.specs.Reword.{a_bool, an_int, a_float, a_string, in_str, in_par, in_unr, in_prop, in_cop, in_com, in_sho, in_ali, in_lab, in_sp, in_rp, in_cal, SameFunction, Line, value, unread, alias, function, Each, no_more, more, Alike, same_line, other, Secrecy}
 
 -- names of one function are looked up alike
 pub same-function : (a b : Bytes) → SameFunction a b → lookup a ≡ lookup b
@@ -29,18 +29,18 @@ line-arity (value a_bool ns ms a b) = refl
 line-arity (value an_int ns ms a b) = refl
 line-arity (value a_float ns ms a b) = refl
 line-arity (value a_string ns ms a b) = refl
-line-arity (unread in-str v ns a b) = refl
-line-arity (unread in-par v ns a b) = refl
-line-arity (unread in-unr v ns a b) = refl
-line-arity (unread in-prop v ns a b) = refl
-line-arity (unread in-cop v ns a b) = refl
-line-arity (unread in-com v ns a b) = refl
-line-arity (unread in-sho v ns a b) = refl
-line-arity (unread in-ali v ns a b) = refl
-line-arity (unread in-lab v ns a b) = refl
-line-arity (unread in-sp v ns a b) = refl
-line-arity (unread in-rp v ns a b) = refl
-line-arity (unread in-cal v ns a b) = refl
+line-arity (unread in_str v ns a b) = refl
+line-arity (unread in_par v ns a b) = refl
+line-arity (unread in_unr v ns a b) = refl
+line-arity (unread in_prop v ns a b) = refl
+line-arity (unread in_cop v ns a b) = refl
+line-arity (unread in_com v ns a b) = refl
+line-arity (unread in_sho v ns a b) = refl
+line-arity (unread in_ali v ns a b) = refl
+line-arity (unread in_lab v ns a b) = refl
+line-arity (unread in_sp v ns a b) = refl
+line-arity (unread in_rp v ns a b) = refl
+line-arity (unread in_cal v ns a b) = refl
 line-arity (alias a b) = refl
 line-arity (function ns a b e) = refl
 
@@ -50,18 +50,18 @@ line_step (value a_bool ns ms a b) env n rs = refl
 line_step (value an_int ns ms a b) env n rs = refl
 line_step (value a_float ns ms a b) env n rs = refl
 line_step (value a_string ns ms a b) env n rs = refl
-line_step (unread in-str v ns a b) env n rs = refl
-line_step (unread in-par v ns a b) env n rs = refl
-line_step (unread in-unr v ns a b) env n rs = refl
-line_step (unread in-prop v ns a b) env n rs = refl
-line_step (unread in-cop v ns a b) env n rs = refl
-line_step (unread in-com v ns a b) env n rs = refl
-line_step (unread in-sho v ns a b) env n rs = refl
-line_step (unread in-ali v ns a b) env n rs = refl
-line_step (unread in-lab v ns a b) env n rs = refl
-line_step (unread in-sp v ns a b) env n rs = refl
-line_step (unread in-rp v ns a b) env n rs = refl
-line_step (unread in-cal v ns a b) env n rs = refl
+line_step (unread in_str v ns a b) env n rs = refl
+line_step (unread in_par v ns a b) env n rs = refl
+line_step (unread in_unr v ns a b) env n rs = refl
+line_step (unread in_prop v ns a b) env n rs = refl
+line_step (unread in_cop v ns a b) env n rs = refl
+line_step (unread in_com v ns a b) env n rs = refl
+line_step (unread in_sho v ns a b) env n rs = refl
+line_step (unread in_ali v ns a b) env n rs = refl
+line_step (unread in_lab v ns a b) env n rs = refl
+line_step (unread in_sp v ns a b) env n rs = refl
+line_step (unread in_rp v ns a b) env n rs = refl
+line_step (unread in_cal v ns a b) env n rs = refl
 line_step (alias a b) env n rs = refl
 line_step (function ns a b e) env n rs = rw (same-function a b e)
 
@@ -72,18 +72,18 @@ line-bound (value a_bool ns ms a b) hs ks e = refl
 line-bound (value an_int ns ms a b) hs ks e = refl
 line-bound (value a_float ns ms a b) hs ks e = refl
 line-bound (value a_string ns ms a b) hs ks e = refl
-line-bound (unread in-str v ns a b) hs ks e = refl
-line-bound (unread in-par v ns a b) hs ks e = refl
-line-bound (unread in-unr v ns a b) hs ks e = refl
-line-bound (unread in-prop v ns a b) hs ks e = refl
-line-bound (unread in-cop v ns a b) hs ks e = refl
-line-bound (unread in-com v ns a b) hs ks e = refl
-line-bound (unread in-sho v ns a b) hs ks e = refl
-line-bound (unread in-ali v ns a b) hs ks e = refl
-line-bound (unread in-lab v ns a b) hs ks e = refl
-line-bound (unread in-sp v ns a b) hs ks e = refl
-line-bound (unread in-rp v ns a b) hs ks e = refl
-line-bound (unread in-cal v ns a b) hs ks e = refl
+line-bound (unread in_str v ns a b) hs ks e = refl
+line-bound (unread in_par v ns a b) hs ks e = refl
+line-bound (unread in_unr v ns a b) hs ks e = refl
+line-bound (unread in_prop v ns a b) hs ks e = refl
+line-bound (unread in_cop v ns a b) hs ks e = refl
+line-bound (unread in_com v ns a b) hs ks e = refl
+line-bound (unread in_sho v ns a b) hs ks e = refl
+line-bound (unread in_ali v ns a b) hs ks e = refl
+line-bound (unread in_lab v ns a b) hs ks e = refl
+line-bound (unread in_sp v ns a b) hs ks e = refl
+line-bound (unread in_rp v ns a b) hs ks e = refl
+line-bound (unread in_cal v ns a b) hs ks e = refl
 line-bound (alias a b) hs ks e = refl
 line-bound (function ns a b f) hs ks e = refl
 

@@ -30,18 +30,18 @@ pub data Literal : Word → Type 0 where
 
 -- "Unread names: in `str`, `par`, `unr`, `prop`, `cop`, `com`, `sho`, `ali`, `lab`, `sp`, `rp`, `cal`"
 pub data Unread : Word → Type 0 where
-  in-str : Unread str_word
-  in-par : Unread par_word
-  in-unr : Unread unr_word
-  in-prop : Unread prop_word
-  in-cop : Unread cop_word
-  in-com : Unread com_word
-  in-sho : Unread sho_word
-  in-ali : Unread ali_word
-  in-lab : Unread lab_word
-  in-sp : Unread sp_word
-  in-rp : Unread rp_word
-  in-cal : Unread cal_word
+  in_str : Unread str_word
+  in_par : Unread par_word
+  in_unr : Unread unr_word
+  in_prop : Unread prop_word
+  in_cop : Unread cop_word
+  in_com : Unread com_word
+  in_sho : Unread sho_word
+  in_ali : Unread ali_word
+  in_lab : Unread lab_word
+  in_sp : Unread sp_word
+  in_rp : Unread rp_word
+  in_cal : Unread cal_word
 
 -- "in `call`, one unlisted function name for another, or a built-in's letter case"
 abbrev pub SameFunction : Bytes → Bytes → Type 0
@@ -62,13 +62,13 @@ renumber_optional f (some v) = some (f v)
 abbrev pub renumbered : (ℕ → ℕ) → Head → Head
 renumbered f h = mk h.word (renumber_optional f h.var) h.nums h.name
 
-unfoldable pub with-variable : Option ℕ → List ℕ → List ℕ
-with-variable none vs = vs
-with-variable (some v) vs = v ∷ vs
+unfoldable pub with_variable : Option ℕ → List ℕ → List ℕ
+with_variable none vs = vs
+with_variable (some v) vs = v ∷ vs
 
 unfoldable pub variables : List Head → List ℕ
 variables [] = []
-variables (h ∷ hs) = with-variable h.var (variables hs)
+variables (h ∷ hs) = with_variable h.var (variables hs)
 
 abbrev pub OneToOne : (ℕ → ℕ) → List ℕ → Type 0
 OneToOne f vs = (v w : ℕ) → Memᴰ v vs → Memᴰ w vs → f v ≡ f w → v ≡ w
@@ -105,7 +105,7 @@ pub data Whole : ℕ → List Head → Type 0 where
 
 -- "an entry a `key` line with its expression": entries of these names
 pub data Entries : List Bytes → List Head → Type 0 where
-  no-entry : Entries [] []
+  no_entry : Entries [] []
   entry : (n : Bytes) {x hs : List Head} {ns : List Bytes} → Whole 1 x → Entries ns hs → Entries (n ∷ ns) (mk key_word none [] n ∷ (x ++ hs))
 
 -- names that all differ
@@ -158,13 +158,13 @@ type_lines (l ∷ ls) = cond (begins type_letter l) (l ∷ type_lines ls) (type_
 
 -- "The fault lines before a type line are the F lines since the T line before it, or since the start"; a last group for those after
 -- the last T line
-unfoldable pub into-first : Bytes → List (List Bytes) → List (List Bytes)
-into-first l [] = (l ∷ []) ∷ []
-into-first l (g ∷ gs) = (l ∷ g) ∷ gs
+unfoldable pub into_first : Bytes → List (List Bytes) → List (List Bytes)
+into_first l [] = (l ∷ []) ∷ []
+into_first l (g ∷ gs) = (l ∷ g) ∷ gs
 
 unfoldable pub fault_groups : List Bytes → List (List Bytes)
 fault_groups [] = [] ∷ []
-fault_groups (l ∷ ls) = let gs = fault_groups ls in cond (begins type_letter l) ([] ∷ gs) (cond (begins fault_letter l) (into-first l gs) gs)
+fault_groups (l ∷ ls) = let gs = fault_groups ls in cond (begins type_letter l) ([] ∷ gs) (cond (begins fault_letter l) (into_first l gs) gs)
 
 -- the last line: the last piece that a LF ends
 unfoldable pub last_line : List Bytes → Bytes
@@ -196,17 +196,17 @@ pub record Agree (x y : Bytes) : Type 0 where
 mutual
   pub data Within (u : Ty) : Ty → Type 0 where
     itself : Within u u
-    of-list : {t : Ty} → Within u t → Within u (t_list t)
+    of_list : {t : Ty} → Within u t → Within u (t_list t)
     of_map : {fs : Fields} → WithinFields u fs → Within u (t_map fs)
-    of-union : {ts : Tys} → WithinMembers u ts → Within u (t_union ts)
+    of_union : {ts : Tys} → WithinMembers u ts → Within u (t_union ts)
 
   pub data WithinFields (u : Ty) : Fields → Type 0 where
     in_field : {n : Bytes} {t : Ty} {fs : Fields} → Within u t → WithinFields u (field n t fs)
-    in-later-field : {n : Bytes} {t : Ty} {fs : Fields} → WithinFields u fs → WithinFields u (field n t fs)
+    in_later_field : {n : Bytes} {t : Ty} {fs : Fields} → WithinFields u fs → WithinFields u (field n t fs)
 
   pub data WithinMembers (u : Ty) : Tys → Type 0 where
-    in-member : {t : Ty} {ts : Tys} → Within u t → WithinMembers u (t ⊕ ts)
-    in-later-member : {t : Ty} {ts : Tys} → WithinMembers u ts → WithinMembers u (t ⊕ ts)
+    in_member : {t : Ty} {ts : Tys} → Within u t → WithinMembers u (t ⊕ ts)
+    in_later_member : {t : Ty} {ts : Tys} → WithinMembers u ts → WithinMembers u (t ⊕ ts)
 
 -- "at least two members, strictly ascending, none a union"
 pub record Canonical (ts : Tys) : Type 0 where

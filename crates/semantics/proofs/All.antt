@@ -1,5 +1,5 @@
 -- What holds of every element of a list, and of both branches of a test. Assumes nothing.
-use mathlib.Core.List.{List, [], ◌∷◌, ◌++◌, map}
+use mathlib.Core.List.{List, ◌++◌, map}
 use mathlib.Core.Bool.{Bool, true, false}
 use Prim.Native.Nat.{ℕ, suc, zero}
 use lib.ListN.{get_or, take, drop}
@@ -28,10 +28,10 @@ all_drop (suc n) empty = empty
 all_drop (suc n) (also p ps) = all_drop n ps
 
 -- the element at a place, or what stands in for it
-pub all-at : {A : Type 0} {P : A → Type 0} (d : A) → P d → {xs : List A} → All P xs → (n : ℕ) → P (get_or xs n d)
-all-at d q empty n = q
-all-at d q (also p ps) zero = p
-all-at d q (also p ps) (suc n) = all-at d q ps n
+pub all_at : {A : Type 0} {P : A → Type 0} (d : A) → P d → {xs : List A} → All P xs → (n : ℕ) → P (get_or xs n d)
+all_at d q empty n = q
+all_at d q (also p ps) zero = p
+all_at d q (also p ps) (suc n) = all_at d q ps n
 
 pub either : {A : Type 0} (P : A → Type 0) {x y : A} (b : Bool) → P x → P y → P (elim b [ true ↦ x | false ↦ y ])
 either P true p q = p

@@ -1,13 +1,13 @@
 -- A sheet is refused with 3, 4 or 5 where it cannot be read.
 use mathlib.Core.List.{List, [], ◌∷◌, ◌++◌}
 use mathlib.Core.Option.{Option, none, some}
-use mathlib.Core.Bool.{Bool, true, false, ◌&&◌}
-use Prim.Native.Nat.{ℕ, suc, zero, ◌+◌, ◌-◌, ◌*◌, ◌%◌, ◌≤◌}
+use mathlib.Core.Bool.{◌&&◌}
+use Prim.Native.Nat.{ℕ, suc, ◌-◌, ◌*◌, ◌%◌, ◌≤◌}
 use native.Mathlib.Omega.{arith}
 use lib.ListN.{length, get_or}
 use lib.Dec.{eqb, ltb, leb}
-use Rattle.semantics.specs.Limits.{name_limit, variable_limit, bound_limit, signed_shift, depth_limit}
-use Rattle.semantics.specs.Bytes.{Bytes, same, split, decimal, unhex}
+use Rattle.semantics.specs.Limits.{name_limit, variable_limit, bound_limit, signed_shift}
+use Rattle.semantics.specs.Bytes.{Bytes, split, decimal, unhex}
 use Rattle.semantics.specs.Sheet.{Word, Field, range, variable, optional, name, alias, bound, letter, signed, float, Head, variable_of, row, place, rank, words, word_in, Value, wrong, number, variable_v, name_v, alias_v, is_dash, within, named, lettered, signed_of, float_of, bound_of, value, Read, bad, ok, into, fill, bare, Want, first, clauses, bindings, at, fits, beyond, and_then, read_fields, read_as, read_pieces, read_line, under, Sheet, refused, heads, add, carry, check, sheet}
 use Rattle.semantics.proofs.All.{either}
 

@@ -9,7 +9,7 @@ use native.Mathlib.Omega.{arith}
 use Rattle.semantics.specs.Bytes.{Bytes, same}
 use Rattle.semantics.specs.Ty.{t_any, t_null, t_unknown, Ty, base, t_list, t_map, t_node, t_relationship, t_union, Tys, ∅, ◌⊕◌, Fields, ∅ᶠ, field, members, matches, equal, nesting, nesting_s, nesting_f, set_field, get_field}
 use Rattle.semantics.specs.Unify.{Unified, gives, unites, on_agreed, on_field, tested, unify_maps, variants_with, widened, unify_union_with, Meeting, pair, arms, unify_in, unify}
-use Rattle.semantics.proofs.Meetings.{Met, two-numbers, two-lists, two-maps, two-nodes, two-relationships, two-unions, union_left, union_right, no-rule, met}
+use Rattle.semantics.proofs.Meetings.{Met, two_numbers, two_lists, two_maps, two_nodes, two_relationships, two_unions, union_left, union_right, no_rule, met}
 
 -- ## Two functions that agree below a bound on the nesting of both arguments
 
@@ -51,15 +51,15 @@ module _ (k : ℕ) (f g : Ty → Ty → Unified) (h : Below k f g) where
 
   pair-cong : {a b : Ty} {m : Meeting} → Met a b m → nesting a + nesting b ≤ k → pair f m ≡ pair g m
   unfolding pair nesting
-  pair-cong (two-numbers c d p q) l = refl
-  pair-cong (two-lists t u) l = ap (λ z. on_agreed z (λ v. gives [] (t_list v))) (h t u (omega arith))
-  pair-cong (two-maps fs gs) l = maps-cong fs fs gs ∅ᶠ (omega arith)
-  pair-cong (two-nodes ls ks) l = refl
-  pair-cong (two-relationships m n) l = refl
-  pair-cong (two-unions ts us) l = union-cong (t_union us) ts (omega arith)
+  pair-cong (two_numbers c d p q) l = refl
+  pair-cong (two_lists t u) l = ap (λ z. on_agreed z (λ v. gives [] (t_list v))) (h t u (omega arith))
+  pair-cong (two_maps fs gs) l = maps-cong fs fs gs ∅ᶠ (omega arith)
+  pair-cong (two_nodes ls ks) l = refl
+  pair-cong (two_relationships m n) l = refl
+  pair-cong (two_unions ts us) l = union-cong (t_union us) ts (omega arith)
   pair-cong (union_left ts u p) l = union-cong u ts (omega arith)
   pair-cong (union_right t us p) l = union-cong t us (omega arith)
-  pair-cong (no-rule c d e) l = refl
+  pair-cong (no_rule c d e) l = refl
 
 else : {A : Type 0} (c : Bool) (x : A) {y z : A} → y ≡ z → ◌≡◌ {A = A} (elim c [ true ↦ x | false ↦ y ]) (elim c [ true ↦ x | false ↦ z ])
 else true x e = refl

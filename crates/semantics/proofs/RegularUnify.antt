@@ -8,7 +8,7 @@ use Rattle.semantics.specs.Bytes.{Bytes, same}
 use Rattle.semantics.specs.Ty.{t_any, t_null, t_unknown, Ty, t_list, t_map, t_union, Tys, Fields, ∅ᶠ, field, members, matches, equal, nesting, set_field, get_field, insert_names}
 use Rattle.semantics.specs.Unify.{Answer, agreed, mismatch, Unified, gives, on_agreed, tested, on_field, extras, unify_maps, unify_label_sets, Variants, variants_with, widened, unify_union_with, Meeting, pair, arms, unify_in, unify}
 use Rattle.semantics.proofs.All.{All, empty, also, all-weaken, all_append, either}
-use Rattle.semantics.proofs.Meetings.{Met, two-numbers, two-lists, two-maps, two-nodes, two-relationships, two-unions, union_left, union_right, no-rule, met}
+use Rattle.semantics.proofs.Meetings.{Met, two_numbers, two_lists, two_maps, two_nodes, two_relationships, two_unions, union_left, union_right, no_rule, met}
 use Rattle.semantics.proofs.Regular.{AscendingLabels, names-ascend, Regular, RegularF, regular-members, unite-regular, no-entries, set-regular}
 
 -- an answer whose types are regular
@@ -106,15 +106,15 @@ union-regular rec k other h {vs} a = widened-regular vs other (variants_with (λ
 
 pair-regular : (rec : Ty → Ty → Unified) → Keeps rec → {a b : Ty} {m : Meeting} → Met a b m → Regular a → Regular b → RegularUnified (pair rec m)
 unfolding pair
-pair-regular rec k (two-numbers b c x y) p q = tt
-pair-regular rec k (two-lists t u) p q = agreed-regular (rec t u) (λ v. gives [] (t_list v)) (k t u p q) (λ v h. h)
-pair-regular rec k (two-maps fs gs) p q = maps-regular rec k fs gs fs ∅ᶠ q.1 p.1 no-entries
-pair-regular rec k (two-nodes ls ks) p q = labels-regular ls ks
-pair-regular rec k (two-relationships m n) p q = tt
-pair-regular rec k (two-unions ts us) p q = union-regular rec k (t_union us) q (union-members ts p)
+pair-regular rec k (two_numbers b c x y) p q = tt
+pair-regular rec k (two_lists t u) p q = agreed-regular (rec t u) (λ v. gives [] (t_list v)) (k t u p q) (λ v h. h)
+pair-regular rec k (two_maps fs gs) p q = maps-regular rec k fs gs fs ∅ᶠ q.1 p.1 no-entries
+pair-regular rec k (two_nodes ls ks) p q = labels-regular ls ks
+pair-regular rec k (two_relationships m n) p q = tt
+pair-regular rec k (two_unions ts us) p q = union-regular rec k (t_union us) q (union-members ts p)
 pair-regular rec k (union_left ts u x) p q = union-regular rec k u q (union-members ts p)
 pair-regular rec k (union_right t us x) p q = union-regular rec k t p (union-members us q)
-pair-regular rec k (no-rule a b e) p q = (p, q)
+pair-regular rec k (no_rule a b e) p q = (p, q)
 
 arms-regular : (rec : Ty → Ty → Unified) → Keeps rec → Keeps (arms rec)
 unfolding arms

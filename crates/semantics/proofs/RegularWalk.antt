@@ -4,14 +4,14 @@ use mathlib.Core.List.{List, [], ◌∷◌}
 use mathlib.Core.Option.{Option, none, some}
 use Prim.Native.Nat.{ℕ, suc}
 use lib.Dec.{eqb}
-use Rattle.semantics.specs.Bytes.{Bytes, same}
+use Rattle.semantics.specs.Bytes.{Bytes}
 use Rattle.semantics.specs.Ty.{t_any, t_unknown, Ty, base, t_list, t_map, t_node, t_relationship, t_union, Fields, ∅ᶠ, set_field}
 use Rattle.semantics.specs.Unify.{Answer, agreed, mismatch, unify}
 use Rattle.semantics.specs.Builtins.{ReturnShape, fixed, list_element, list_self, Builtin, builtin_id, builtin_size, builtin_head, builtin_tail, builtin_last, builtin_keys, builtin_values, signature, lookup, element_of, list_or, resolve_return}
-use Rattle.semantics.specs.Sheet.{Word, Head, num, Role, plain, condition, answer, inner, Typing, constant, var_type, element, slice, listing, mapping, calling, operator, unary, casing, membership, comprehension, Rule, silent, entering, typed, row, rule, roles, arity}
+use Rattle.semantics.specs.Sheet.{Head, num, Role, plain, condition, answer, inner, Typing, constant, var_type, element, slice, listing, mapping, calling, operator, unary, casing, membership, comprehension, Rule, silent, entering, typed, rule, roles, arity}
 use Rattle.semantics.specs.Walk.{Top, Res, Env, kind_type, var_type_in, var_type_of, a_number, meets, numeric, Op, arithmetic, comparison, equality, boolean, string, concat, op, or_else, op_type, unary_type, call_type, grown, running, listed, mapped, answers, last_of, ty_of, tys, nth, type_by, type_of, tops_of, tops, tops_by, step, walk, env_of, results, all_tops, typing}
-use Rattle.semantics.proofs.All.{All, empty, also, all_map, all_append, all_take, all_drop, all-at, either}
-use Rattle.semantics.proofs.Words.{Simple, a-base, a-map, row-simple}
+use Rattle.semantics.proofs.All.{All, empty, also, all_map, all_append, all_take, all_drop, all_at, either}
+use Rattle.semantics.proofs.Words.{Simple, a_base, a_map, row-simple}
 use Rattle.semantics.proofs.Regular.{Regular, unite-regular, no-entries, set-regular}
 use Rattle.semantics.proofs.RegularUnify.{RegularAnswer, unify-answer}
 
@@ -21,8 +21,8 @@ abbrev RegularTyping : Typing → Type 0
 RegularTyping k = (t : Ty) → k ≡ constant t → Regular t
 
 simple-regular : {t : Ty} → Simple t → Regular t
-simple-regular (a-base b) = tt
-simple-regular a-map = no-entries
+simple-regular (a_base b) = tt
+simple-regular a_map = no-entries
 
 abbrev RegularReturn : ReturnShape → Type 0
 RegularReturn (fixed t) = Regular t
@@ -146,7 +146,7 @@ tys-regular : {es : List (Bytes × Ty)} → All RegularEntry es → All Regular 
 tys-regular a = all_map ty_of (λ e h. h) a
 
 nth-regular : {es : List (Bytes × Ty)} → All RegularEntry es → (i : ℕ) → Regular (nth es i)
-nth-regular a i = all-at (base t_unknown) tt (tys-regular a) i
+nth-regular a i = all_at (base t_unknown) tt (tys-regular a) i
 
 type-by-regular : (k : Typing) → RegularTyping k → (env : Env) (h : Head) (ps : List Role) {es : List (Bytes × Ty)} → All RegularEntry es → Regular (type_by k env h ps es)
 unfolding type_by

@@ -1,16 +1,16 @@
 -- One law over the words: what is computed alike for each word of the list is alike for every word. And over the shapes: what holds of
 -- each role that a shape names holds of all its children. Assumes nothing.
 use mathlib.Core.Path.{◌≡◌, refl, sym, ◌∙◌, ap, subst}
-use mathlib.Core.List.{List, [], ◌∷◌, ◌++◌, map}
-use mathlib.Core.Option.{Option, none, some}
+use mathlib.Core.List.{List, [], ◌∷◌, map}
+use mathlib.Core.Option.{some}
 use mathlib.Core.Bool.{Bool, true, false, cond, ◌&&◌}
 use Prim.Native.Nat.{ℕ, suc, zero}
 use native.Mathlib.Omega.{arith}
 use lib.ListN.{get_or, replicate}
 use lib.Dec.{eqb}
 use Rattle.semantics.specs.Bytes.{Bytes, text, lex, same}
-use Rattle.semantics.specs.Ty.{Base, Ty, base, t_list, t_map, t_node, t_relationship, t_union, Fields, ∅ᶠ, field}
-use Rattle.semantics.specs.Sheet.{Word, cyrs_word, b_word, end_word, mat_word, cre_word, mer_word, whe_word, wit_word, ret_word, unw_word, set_word, rem_word, del_word, cal_word, pro_word, sp_word, sl_word, sm_word, rp_word, rl_word, lab_word, parts_word, part_word, nod_word, rel_word, null_word, bool_word, int_word, flt_word, str_word, var_word, par_word, unr_word, exi_word, prop_word, idx_word, sli_word, lis_word, map_word, key_word, call_word, bin_word, una_word, case_word, isn_word, in_word, pat_word, lcp_word, pcp_word, lpr_word, mpr_word, cop_word, com_word, sho_word, ali_word, words, word_in, Role, plain, condition, answer, Shape, nothing, one, two, bounds, arms, times, times_then, around, one_then, one_times, kids, present, arm_roles, low, high, Rule, silent, entering, typed, Typing, constant, var_type, element, slice, listing, mapping, calling, operator, unary, casing, membership, comprehension, row}
+use Rattle.semantics.specs.Ty.{Base, Ty, base, t_list, t_map, t_node, t_relationship, t_union, ∅ᶠ, field}
+use Rattle.semantics.specs.Sheet.{Word, cyrs_word, b_word, end_word, mat_word, cre_word, mer_word, whe_word, wit_word, ret_word, unw_word, set_word, rem_word, del_word, cal_word, pro_word, sp_word, sl_word, sm_word, rp_word, rl_word, lab_word, parts_word, part_word, nod_word, rel_word, null_word, bool_word, int_word, flt_word, str_word, var_word, par_word, unr_word, exi_word, prop_word, idx_word, sli_word, lis_word, map_word, key_word, call_word, bin_word, una_word, case_word, isn_word, in_word, pat_word, lcp_word, pcp_word, lpr_word, mpr_word, cop_word, com_word, sho_word, ali_word, words, word_in, Role, plain, condition, answer, Shape, nothing, one, two, bounds, arms, times, times_then, around, one_then, one_times, kids, present, arm_roles, low, high, Rule, silent, entering, typed, constant, var_type, element, slice, listing, mapping, calling, operator, unary, casing, membership, comprehension, row}
 use Rattle.semantics.proofs.All.{All, empty, also, all_append}
 
 -- ## Words
@@ -112,8 +112,8 @@ kids-each t f s e ns = kids-all s (each_all t f (named s) e) ns
 
 -- the types that the table gives: a base type, or the map without entries
 pub data Simple : Ty → Type 0 where
-  a-base : (b : Base) → Simple (base b)
-  a-map : Simple (t_map ∅ᶠ)
+  a_base : (b : Base) → Simple (base b)
+  a_map : Simple (t_map ∅ᶠ)
 
 abbrev simple_ty : Ty → Bool
 simple_ty (base b) = true
@@ -141,9 +141,9 @@ simple_rule (typed membership) = true
 simple_rule (typed comprehension) = true
 
 simple-true : (t : Ty) → simple_ty t ≡ true → Simple t
-simple-true (base b) e = a-base b
+simple-true (base b) e = a_base b
 simple-true (t_list t) e = absurd (let z : ◌≡◌ {A = ℕ} 0 1 = cc in omega arith)
-simple-true (t_map ∅ᶠ) e = a-map
+simple-true (t_map ∅ᶠ) e = a_map
 simple-true (t_map (field k t fs)) e = absurd (let z : ◌≡◌ {A = ℕ} 0 1 = cc in omega arith)
 simple-true (t_node ls) e = absurd (let z : ◌≡◌ {A = ℕ} 0 1 = cc in omega arith)
 simple-true (t_relationship n) e = absurd (let z : ◌≡◌ {A = ℕ} 0 1 = cc in omega arith)

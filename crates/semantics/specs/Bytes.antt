@@ -5,7 +5,7 @@ use Prim.Native.Nat.{ℕ, suc, zero, ◌+◌, ◌*◌, ◌-◌, ◌/◌, ◌%◌
 use Prim.Native.String.{String, [] as []ˢ, ◌∷◌ as ◌∷ˢ◌}
 use Prim.Native.Char.{code}
 use Rattle.std.proofs.Math.Dec.{compare_is_eq}
-use Rattle.semantics.specs.Codes.{line_feed, digit_zero, digit_nine, decimal_digits, small_a, small_f, small_aminus_ten}
+use Rattle.semantics.specs.Codes.{line_feed, digit_zero, digit_nine, decimal_digits, small_a, small_f, small_a_minus_ten}
 
 abbrev pub Bytes : Type 0
 Bytes = List ℕ
@@ -62,12 +62,12 @@ shown n = shown_in decimal_digits n []
 
 -- a name is kept as its hexadecimal digits, two for each byte; `hex` writes a digit, `unhex` reads them all
 unfoldable pub hex : ℕ → ℕ
-hex d = cond (ltb d 10) (digit_zero + d) (small_aminus_ten + d)
+hex d = cond (ltb d 10) (digit_zero + d) (small_a_minus_ten + d)
 
 unfoldable pub unhex : Bytes → Option Bytes
 unhex [] = some []
 unhex (c ∷ cs) =
-    elim (is_digit c) [ true ↦ more (c - digit_zero) (unhex cs) | false ↦ elim (leb small_a c && leb c small_f) [ true ↦ more (c - small_aminus_ten) (unhex cs) | false ↦ none ] ]
+    elim (is_digit c) [ true ↦ more (c - digit_zero) (unhex cs) | false ↦ elim (leb small_a c && leb c small_f) [ true ↦ more (c - small_a_minus_ten) (unhex cs) | false ↦ none ] ]
   where
     more : ℕ → Option Bytes → Option Bytes
     more d none = none

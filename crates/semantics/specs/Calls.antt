@@ -4,11 +4,11 @@ use Rattle.std.proofs.Math.Option.{Option, none, some}
 use Rattle.semantics.specs.Limits.{sheet_limit, depth_limit, work_size, unify_output}
 use Rattle.semantics.specs.Codes.{line_feed, comma, fault_letter, type_letter, type_too_large, output_too_short, no_type_line, mismatched}
 use Rattle.semantics.specs.Bytes.{Bytes, text, unlines, shown}
-use Rattle.semantics.specs.Ty.{Base, t_any, t_null, t_bool, t_int, t_float, t_num, t_string, t_date, t_datetime, t_path, t_unknown, Ty, base, t_list, t_map, t_node, t_relationship, t_union, line, too_large, type_line}
-use Rattle.semantics.specs.Unify.{Answer, agreed, mismatch, Unified, unify}
+use Rattle.semantics.specs.Ty.{t_any, t_null, t_bool, t_int, t_float, t_num, t_string, t_date, t_datetime, t_path, t_unknown, Ty, base, t_list, t_map, t_node, t_relationship, t_union, line, too_large, type_line}
+use Rattle.semantics.specs.Unify.{Answer, agreed, mismatch, unify}
 use Rattle.semantics.specs.Builtins.{signature, describe}
 use Rattle.semantics.specs.Sheet.{Head, Sheet, refused, heads, sheet}
-use Rattle.semantics.specs.Walk.{Fault, fault_2009, fault_2010, fault_2011, fault_2012, fault_2013, fault_5012, Top, Res, results, all_tests, typing}
+use Rattle.semantics.specs.Walk.{Fault, fault_2009, fault_2010, fault_2011, fault_2012, fault_2013, fault_5012, Top, results, all_tests, typing}
 
 -- ## The report
 

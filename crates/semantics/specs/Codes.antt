@@ -31,8 +31,8 @@ small_a = 97
 abbrev pub small_f : ℕ
 small_f = 102
 
-abbrev pub small_aminus_ten : ℕ
-small_aminus_ten = 87
+abbrev pub small_a_minus_ten : ℕ
+small_a_minus_ten = 87
 
 -- capital letters, and how far the small ones stand behind them
 abbrev pub capital_a : ℕ

@@ -1,10 +1,10 @@
 -- Types, their lines, `Type::union`, the strict reader of type lines (RULES 4; ty.rs).
-use Rattle.std.specs.Prelude.{List, [], ◌∷◌, ◌++◌, map, Bool, true, false, ◌&&◌, ◌||◌, not, length, eqb, ltb, leb}
+use Rattle.std.specs.Prelude.{List, [], ◌∷◌, map, Bool, true, false, ◌&&◌, ◌||◌, not, length, eqb, ltb, leb}
 use Rattle.std.proofs.Math.Option.{Option, none, some}
-use Prim.Native.Nat.{ℕ, suc, zero, ◌+◌, ◌*◌, ◌%◌, max, Ordering}
+use Prim.Native.Nat.{ℕ, suc, zero, ◌*◌, ◌%◌, max, Ordering}
 use Rattle.semantics.specs.Limits.{name_limit, type_limit, nesting_limit}
 use Rattle.semantics.specs.Codes.{comma, close_mark, open_mark, any_letter, null_letter, bool_letter, int_letter, float_letter, num_letter, string_letter, date_letter, datetime_letter, list_letter, map_letter, node_letter, relationship_letter, path_letter, union_letter, unknown_letter}
-use Rattle.semantics.specs.Bytes.{Bytes, text, lex, same, split, hex, unhex}
+use Rattle.semantics.specs.Bytes.{Bytes, lex, same, split, hex, unhex}
 
 -- `Type`: the variants that hold nothing, and those that hold something. There is no data of lists of itself, so members and
 -- entries have list types of their own

@@ -1,5 +1,5 @@
 -- Unification, with the types whose size it tests, in order (unify.rs; RULES 5 and 4.7).
-use Rattle.std.specs.Prelude.{List, [], ◌∷◌, ◌++◌, Bool, true, false, ◌&&◌, ◌||◌, ℕ, suc, zero, ◌+◌}
+use Rattle.std.specs.Prelude.{List, [], ◌∷◌, ◌++◌, true, false, ◌&&◌, ◌||◌, ℕ, suc, zero, ◌+◌}
 use Rattle.std.proofs.Math.Option.{Option, none, some}
 use Rattle.semantics.specs.Bytes.{Bytes, same}
 use Rattle.semantics.specs.Ty.{Base, t_any, t_null, t_int, t_float, t_num, t_unknown, Ty, base, t_list, t_map, t_node, t_relationship, t_union, Tys, Fields, ∅ᶠ, field, members, among, matches, equal, nesting, unite, firsts, set_field, get_field, insert_names}

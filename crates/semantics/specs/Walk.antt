@@ -1,10 +1,10 @@
 -- The walk: what each line of a sheet comes to (infer.rs; RULES 3).
-use Rattle.std.specs.Prelude.{List, [], ◌∷◌, ◌++◌, map as map_l, Bool, true, false, ◌&&◌, ℕ, suc, zero, get_or, take, drop, eqb, ltb}
+use Rattle.std.specs.Prelude.{List, [], ◌∷◌, ◌++◌, map as map_l, Bool, true, false, ℕ, suc, get_or, take, drop, eqb, ltb}
 use Rattle.std.proofs.Math.Option.{Option, none, some}
 use Rattle.semantics.specs.Codes.{node_kind, relationship_kind, path_kind, first_rank, binding_rank}
-use Rattle.semantics.specs.Bytes.{Bytes, text}
+use Rattle.semantics.specs.Bytes.{Bytes}
 use Rattle.semantics.specs.Ty.{Base, t_any, t_null, t_bool, t_int, t_float, t_num, t_string, t_path, t_unknown, Ty, base, t_list, t_map, t_node, t_relationship, t_union, Fields, ∅ᶠ, among, matches, unite, firsts, set_field}
-use Rattle.semantics.specs.Unify.{Answer, agreed, mismatch, Unified, unify}
+use Rattle.semantics.specs.Unify.{Answer, agreed, mismatch, unify}
 use Rattle.semantics.specs.Builtins.{ArgShape, Builtin, signature, lookup, accepts, element_of, list_or, resolve_return}
 use Rattle.semantics.specs.Sheet.{Head, num, Role, plain, condition, answer, inner, Typing, constant, var_type, element, slice, listing, mapping, calling, operator, unary, casing, membership, comprehension, Rule, silent, entering, typed, rule, rank, place, roles, arity}
 
@@ -277,23 +277,23 @@ tops_by (typed k) ps rs = []
 -- what a line keeps from child to child: nothing, the running element of a list literal, the fields of a map literal
 pub data Part : Type 0 where
   no_part : Part
-  list-part : Ty → Part
-  map-part : Fields → Part
+  list_part : Ty → Part
+  map_part : Fields → Part
 
 abbrev pub keep_element : Part → Ty → Ty
 keep_element no_part u = u
-keep_element (list-part t) u = grown t u
-keep_element (map-part fs) u = u
+keep_element (list_part t) u = grown t u
+keep_element (map_part fs) u = u
 
 abbrev pub element_tests : Part → Ty → List Ty
 element_tests no_part u = []
-element_tests (list-part t) u = (unify t u).tests
-element_tests (map-part fs) u = []
+element_tests (list_part t) u = (unify t u).tests
+element_tests (map_part fs) u = []
 
 abbrev pub keep_fields : Part → (Bytes × Ty) → Fields
 keep_fields no_part e = set_field e.0 e.1 ∅ᶠ
-keep_fields (list-part t) e = set_field e.0 e.1 ∅ᶠ
-keep_fields (map-part fs) e = set_field e.0 e.1 fs
+keep_fields (list_part t) e = set_field e.0 e.1 ∅ᶠ
+keep_fields (map_part fs) e = set_field e.0 e.1 fs
 
 -- after a child: the tests, and what is kept. A list literal tests the answer of `unify` and then its running type, a map literal its
 -- type so far
@@ -309,8 +309,8 @@ child_by (constant t) k e = no_more
 child_by var_type k e = no_more
 child_by element k e = no_more
 child_by slice k e = no_more
-child_by listing k e = let t = keep_element k e.1 in record { kept = list-part t; tests = element_tests k e.1 ++ (t_list t ∷ []) }
-child_by mapping k e = let fs = keep_fields k e in record { kept = map-part fs; tests = t_map fs ∷ [] }
+child_by listing k e = let t = keep_element k e.1 in record { kept = list_part t; tests = element_tests k e.1 ++ (t_list t ∷ []) }
+child_by mapping k e = let fs = keep_fields k e in record { kept = map_part fs; tests = t_map fs ∷ [] }
 child_by calling k e = no_more
 child_by operator k e = no_more
 child_by unary k e = no_more

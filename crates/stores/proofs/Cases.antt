@@ -74,19 +74,19 @@ pub record Case : Type 0 where
 abbrev pub same_told : Told → Told → Bool
 same_told a b = eqb a.number b.number && (eqb a.first b.first && (eqb a.second b.second && same a.text b.text))
 
-abbrev pub is-so : Case → Called → Bool
-is-so c r = same_told r.0 c.told && (eqb r.1.last c.last && eqb (taken r.1.live) c.taken)
+abbrev pub is_so : Case → Called → Bool
+is_so c r = same_told r.0 c.told && (eqb r.1.last c.last && eqb (taken r.1.live) c.taken)
 
 unfoldable pub all_so : List Case → Bool
 unfolding run_list
 all_so [] = true
-all_so (c ∷ cs) = is-so c (call c.list c.ask) && all_so cs
+all_so (c ∷ cs) = is_so c (call c.list c.ask) && all_so cs
 
 abbrev pub entered : ℕ → ℕ → Bytes → Live
 entered n u t = record { number = n; uses = u; text = t }
 
-abbrev pub with-last : ℕ → List Live → Catalogue
-with-last n ls = record { last = n; live = ls }
+abbrev pub with_last : ℕ → List Live → Catalogue
+with_last n ls = record { last = n; live = ls }
 
 abbrev pub case : Catalogue → Ask → Told → ℕ → ℕ → Case
 case c a t n k = record { list = c; ask = a; told = t; last = n; taken = k }
@@ -100,25 +100,25 @@ d = text "D,"
 
 abbrev pub cases : List Case
 cases =
-    case (with-last 65534 []) (entering d) (tells 65535 1 []) 65535 10
-    ∷ case (with-last 65535 []) (entering d) (refuses 14 0) 65535 0
+    case (with_last 65534 []) (entering d) (tells 65535 1 []) 65535 10
+    ∷ case (with_last 65535 []) (entering d) (refuses 14 0) 65535 0
     -- a present type needs no number
-    ∷ case (with-last 65535 (entered 7 2 d ∷ [])) (entering d) (tells 7 3 []) 65535 10
-    ∷ case (with-last 7 (entered 7 4294967294 d ∷ [])) (entering d) (tells 7 4294967295 []) 7 10
-    ∷ case (with-last 7 (entered 7 4294967295 d ∷ [])) (entering d) (refuses 14 0) 7 10
-    ∷ case (with-last 7 (entered 7 4294967295 d ∷ [])) (releasing 7) (tells 4294967294 0 []) 7 10
+    ∷ case (with_last 65535 (entered 7 2 d ∷ [])) (entering d) (tells 7 3 []) 65535 10
+    ∷ case (with_last 7 (entered 7 4294967294 d ∷ [])) (entering d) (tells 7 4294967295 []) 7 10
+    ∷ case (with_last 7 (entered 7 4294967295 d ∷ [])) (entering d) (refuses 14 0) 7 10
+    ∷ case (with_last 7 (entered 7 4294967295 d ∷ [])) (releasing 7) (tells 4294967294 0 []) 7 10
     -- 65,528 and 65,529 bytes
-    ∷ case (with-last 1 (taking 65518 ∷ [])) (entering d) (tells 2 1 []) 2 65528
-    ∷ case (with-last 1 (taking 65519 ∷ [])) (entering d) (refuses 13 0) 1 65519
+    ∷ case (with_last 1 (taking 65518 ∷ [])) (entering d) (tells 2 1 []) 2 65528
+    ∷ case (with_last 1 (taking 65519 ∷ [])) (entering d) (refuses 13 0) 1 65519
     -- 14 before 13, 8 before both
-    ∷ case (with-last 65535 (taking 65519 ∷ [])) (entering d) (refuses 14 0) 65535 65519
-    ∷ case (with-last 65535 (taking 65519 ∷ [])) (entering (text "D")) (refuses 8 1) 65535 65519
+    ∷ case (with_last 65535 (taking 65519 ∷ [])) (entering d) (refuses 14 0) 65535 65519
+    ∷ case (with_last 65535 (taking 65519 ∷ [])) (entering (text "D")) (refuses 8 1) 65535 65519
     -- a full store takes a present type, and what is released serves again
-    ∷ case (with-last 2 (taking 65518 ∷ entered 2 1 d ∷ [])) (entering d) (tells 2 2 []) 2 65528
-    ∷ case (with-last 2 (taking 65518 ∷ entered 2 1 d ∷ [])) (releasing 1) (tells 0 0 []) 2 10
-    ∷ case (with-last 2 (entered 2 1 d ∷ [])) (releasing 2) (tells 0 0 []) 2 0
-    ∷ case (with-last 2 (entered 2 5 d ∷ [])) (looking_up 2) (tells 5 0 d) 2 10
-    ∷ case (with-last 2 (entered 2 5 d ∷ [])) (looking_up 1) (refuses 15 0) 2 10
+    ∷ case (with_last 2 (taking 65518 ∷ entered 2 1 d ∷ [])) (entering d) (tells 2 2 []) 2 65528
+    ∷ case (with_last 2 (taking 65518 ∷ entered 2 1 d ∷ [])) (releasing 1) (tells 0 0 []) 2 10
+    ∷ case (with_last 2 (entered 2 1 d ∷ [])) (releasing 2) (tells 0 0 []) 2 0
+    ∷ case (with_last 2 (entered 2 5 d ∷ [])) (looking_up 2) (tells 5 0 d) 2 10
+    ∷ case (with_last 2 (entered 2 5 d ∷ [])) (looking_up 1) (refuses 15 0) 2 10
     ∷ []
 
 pub cases-hold : all_so cases ≡ true

@@ -4,7 +4,7 @@ use native.Mathlib.Nat.{pow-suc, suc-mul, mul_assoc, div-eq_of_lt-le, div-add-mo
 use native.Mathlib.Numerals.{add-one}
 use native.Mathlib.Omega.{arith}
 use mathlib.Core.Path.{◌≡◌, refl, sym, ap, ap₂, subst, ◌∙◌}
-use mathlib.Core.List.{List, [], ◌∷◌, ◌++◌, append_assoc, append-nil}
+use mathlib.Core.List.{[], ◌∷◌, ◌++◌, append_assoc, append-nil}
 use lib.ListN.{length, set}
 use lib.Seq.{sets}
 use Rattle.semantics.specs.Bytes.{Bytes, shown_in, shown}

@@ -14,14 +14,14 @@ use Rattle.semantics.specs.Ty.{Ty}
 use Rattle.semantics.specs.Walk.{Env, Res, Top, no_part, tops_of, tops, tops_by, through, last_tests, child, step, walk, env_of, results, all_tops, all_tests, typing}
 use Rattle.semantics.proofs.All.{All, empty, also}
 use Rattle.semantics.proofs.Words.{holds, named, each, kids-each}
-use Rattle.hir.specs.Lines.{Met, all-met, meets, Ascends, no-binding, ascends}
+use Rattle.hir.specs.Lines.{Met, all_met, meets, Ascends, no_binding, ascends}
 use Rattle.hir.specs.Check.{Laid}
 use Rattle.hir.specs.declared.valid.Outline.{Outline}
 use Rattle.hir.proofs.KidLaws.{both}
 use Rattle.hir.proofs.TopLaws.{plain-rule}
 use Rattle.hir.proofs.LinesLaws.{met-split, Inner, AllIn, none_in, one_in, inner-under, met-walk}
 use Rattle.tops.specs.Tops.{fronts, tops_for, top_of, zip_tops, out_tops}
-use Rattle.tops.specs.Standing.{Open, open-top, open_in, Standing, Skipped, Typed}
+use Rattle.tops.specs.Standing.{Open, open_top, open_in, Standing, Skipped, Typed}
 use Rattle.tops.specs.Claims.{TopsInOrder}
 
 -- ## Places and rules
@@ -42,8 +42,8 @@ rule-rule v = holds (λ (v : Word). ok_rule (rank (row v).place) (kind (row v).r
 is-typed : (p k : ℕ) → ok_rule p k ≡ true → p ≡ 13 → k ≡ 2
 is-typed p k e h = eqb-true k 2 (rw (eq-eqb p 13 h) at e)
 
-is-silent : (p k : ℕ) → ok_rule p k ≡ true → (p ≡ 13 → ⊥) → (p ≡ 11 → ⊥) → k ≡ 0
-is-silent p k e a b = eqb-true k 0 (rw (ne_eqb p 13 a, ne_eqb p 11 b) at e)
+is_silent : (p k : ℕ) → ok_rule p k ≡ true → (p ≡ 13 → ⊥) → (p ≡ 11 → ⊥) → k ≡ 0
+is_silent p k e a b = eqb-true k 0 (rw (ne_eqb p 13 a, ne_eqb p 11 b) at e)
 
 no-type : (p k : ℕ) → ok_rule p k ≡ true → p < 13 → k < 2
 no-type p k e h = go (eqb p 11) refl
@@ -67,7 +67,7 @@ typed-of (typed t) e = (t, refl)
 
 -- a line that is no expression and no entry is silent, and an expression is typed
 pub line-silent : (h : Head) → (rank (place h) ≡ 13 → ⊥) → (rank (place h) ≡ 11 → ⊥) → rule h ≡ silent
-line-silent h a b = silent-of (rule h) (is-silent (rank (place h)) (kind (rule h)) (rule-rule h.word) a b)
+line-silent h a b = silent-of (rule h) (is_silent (rank (place h)) (kind (rule h)) (rule-rule h.word) a b)
 
 pub line-typed : (h : Head) → rank (place h) ≡ 13 → (q : Typing) × (rule h ≡ typed q)
 line-typed h e = typed-of (rule h) (is-typed (rank (place h)) (kind (rule h)) (rule-rule h.word) e)
@@ -91,10 +91,10 @@ other-top (typed t) r e = absurd (omega arith)
 
 -- an inner place is inside a clause and none of an expression; entries stand only under an expression (kind 2)
 data FineRole (c : ℕ) : Role → Type 0 where
-  fine-plain : FineRole c plain
-  fine-condition : FineRole c condition
-  fine-answer : FineRole c answer
-  fine-inner : (x : Place) → 3 < rank x → rank x < 13 → (rank x ≡ 11 → c ≡ 2) → FineRole c (inner x)
+  fine_plain : FineRole c plain
+  fine_condition : FineRole c condition
+  fine_answer : FineRole c answer
+  fine_inner : (x : Place) → 3 < rank x → rank x < 13 → (rank x ≡ 11 → c ≡ 2) → FineRole c (inner x)
 
 abbrev Fine : ℕ → List Role → Type 0
 Fine c ps = All (FineRole c) ps
@@ -106,13 +106,13 @@ fine_role c answer = true
 fine_role c (inner x) = ltb 3 (rank x) && (ltb (rank x) 13 && cond (eqb (rank x) 11) (eqb c 2) true)
 
 fine-true : (c : ℕ) (p : Role) → fine_role c p ≡ true → FineRole c p
-fine-true c plain e = fine-plain
-fine-true c condition e = fine-condition
-fine-true c answer e = fine-answer
+fine-true c plain e = fine_plain
+fine-true c condition e = fine_condition
+fine-true c answer e = fine_answer
 fine-true c (inner x) e =
     let a = both (ltb 3 (rank x)) (ltb (rank x) 13 && cond (eqb (rank x) 11) (eqb c 2) true) e in
     let b = both (ltb (rank x) 13) (cond (eqb (rank x) 11) (eqb c 2) true) a.1 in
-    fine-inner x (ltb-true 3 (rank x) a.0) (ltb-true (rank x) 13 b.0) (λ d. eqb-true c 2 (rw (eq-eqb (rank x) 11 d) at b.1))
+    fine_inner x (ltb-true 3 (rank x) a.0) (ltb-true (rank x) 13 b.0) (λ d. eqb-true c 2 (rw (eq-eqb (rank x) 11 d) at b.1))
 
 roles-fine : (v : Word) (ns : List ℕ) → Fine (kind (row v).rule) (kids (row v).under ns)
 unfolding each row rank
@@ -127,10 +127,10 @@ all-fine h = roles-fine h.word h.nums
 -- the places of children are inside a clause
 fine-in : {c : ℕ} {p : Role} → FineRole c p → (d : ℕ) → Inner (wanted d p)
 unfolding rank
-fine-in fine-plain d = omega arith
-fine-in fine-condition d = omega arith
-fine-in fine-answer d = omega arith
-fine-in (fine-inner x a b o) d = a
+fine-in fine_plain d = omega arith
+fine-in fine_condition d = omega arith
+fine-in fine_answer d = omega arith
+fine-in (fine_inner x a b o) d = a
 
 kids-in : {c : ℕ} {ps : List Role} → Fine c ps → (d : ℕ) → AllIn (map (wanted d) ps)
 kids-in empty d = none_in
@@ -145,10 +145,10 @@ front-as {c = c} g d h r e = go g e
     expr e = sym (expr-top (rule h) r (is-typed (rank (place h)) (kind (rule h)) (rule-rule h.word) (eqb-true (rank (place h)) 13 e)))
 
     go : {p : Role} → FineRole c p → fits (wanted d p) (rank (place h)) ≡ true → tops_of p r ≡ tops_for (rule h) r
-    go fine-plain e = expr e
-    go fine-condition e = expr e
-    go fine-answer e = expr e
-    go (fine-inner x a b o) e = sym (other-top (rule h) r (no-type (rank (place h)) (kind (rule h)) (rule-rule h.word) (omega (arith, eqb-true (rank (place h)) (rank x) e))))
+    go fine_plain e = expr e
+    go fine_condition e = expr e
+    go fine_answer e = expr e
+    go (fine_inner x a b o) e = sym (other-top (rule h) r (no-type (rank (place h)) (kind (rule h)) (rule-rule h.word) (omega (arith, eqb-true (rank (place h)) (rank x) e))))
 
 -- ## Where a tree ends
 
@@ -162,7 +162,7 @@ opened : {w : Want} {ws : List Want} {h : Head} {hs ks : List Head} → Met (w �
 opened (meets f g m) = record { fits = f; beyond = g; below = m }
 
 none_left : {hs ks : List Head} → Met [] hs ks → hs ≡ ks
-none_left all-met = refl
+none_left all_met = refl
 
 some-there : {w : Want} {ws : List Want} {hs ks : List Head} → Met (w ∷ ws) hs ks → (h : Head) × (t : List Head) × (hs ≡ h ∷ t)
 some-there (meets {h = h} {hs = hs} f g m) = (h, hs, refl)
@@ -174,7 +174,7 @@ all_in (one_in i x) y = one_in i (all_in x y)
 -- the fronts behind the trees that meet some wants
 met-fronts : {ws : List Want} {hs ks : List Head} → AllIn ws → Met ws hs ks → drop (length ws) (fronts hs) ≡ fronts ks
 unfolding fronts arity
-met-fronts i all-met = refl
+met-fronts i all_met = refl
 met-fronts (one_in i is) (meets {w = w} {ws = ws} {h = h} {hs = hs} f g m) =
     let u = inner-under w h i f in
     let r = met-fronts (all_in u.1 is) m in
@@ -339,7 +339,7 @@ met-end w h hs ks e m = none_left (subst (λ (y : List Want). Met (y ++ []) hs k
 
 end-met : (d : ℕ) (h : Head) → rank (place h) ≡ 3 → Met (clauses d ∷ []) (h ∷ []) []
 unfolding fits beyond
-end-met d h e = meets (ap (fits (clauses d)) e) refl (subst (λ (y : List Want). Met (y ++ []) [] []) (sym (end-under (clauses d) h e)) all-met)
+end-met d h e = meets (ap (fits (clauses d)) e) refl (subst (λ (y : List Want). Met (y ++ []) [] []) (sym (end-under (clauses d) h e)) all_met)
 
 pub out-end : (env : Env) (n : ℕ) (h : Head) → rank (place h) ≡ 3 → (out_tops env n (h ∷ []) ≡ []) × (all_tests (walk env n (h ∷ [])) ≡ [])
 out-end env n h e =
@@ -359,7 +359,7 @@ bare-tops env n h hs l ne =
 
 binds-out : {v w : ℕ} {bs : List Head} → Ascends v bs w → (env : Env) (n : ℕ) (rest : List Head)
     → (all_tops (walk env n (bs ++ rest)) ≡ all_tops (walk env (n + length bs) rest)) × (all_tests (walk env n (bs ++ rest)) ≡ all_tests (walk env (n + length bs) rest))
-binds-out no-binding env n rest =
+binds-out no_binding env n rest =
     let z : n ≡ n + 0 = omega arith in
     (ap (λ (x : ℕ). all_tops (walk env x rest)) z, ap (λ (x : ℕ). all_tests (walk env x rest)) z)
 binds-out (ascends {h = h} {hs = hs} one low more) env n rest =
@@ -424,7 +424,7 @@ laid_out d s r x =
 
 -- at the clauses
 pub stand-start : (levels : ℕ) (s : Bytes) (r : Outline) (x : Laid levels s r) → Standing levels x.rest
-stand-start levels s r x = record { wants = clauses levels ∷ []; opens = open-top; met = x.met }
+stand-start levels s r x = record { wants = clauses levels ∷ []; opens = open_top; met = x.met }
 
 -- there is a line
 pub stand-some : {levels : ℕ} (hs : List Head) → Standing levels hs → 0 < length hs
@@ -434,7 +434,7 @@ stand-some {levels = levels} hs x = go x.opens x.met
     some m = let s = some-there m in omega (arith, ap length s.2)
 
     go : {ws : List Want} → Open levels ws → Met ws hs [] → 0 < length hs
-    go open-top m = some m
+    go open_top m = some m
     go (open_in a b y) m = some m
 
 -- the end is the last line
@@ -443,16 +443,16 @@ unfolding fits
 stand-end {levels = levels} h hs x e = go x.opens x.met
   where
     go : {ws : List Want} → Open levels ws → Met ws (h ∷ hs) [] → hs ≡ []
-    go open-top m = met-end (clauses levels) h hs [] e m
+    go open_top m = met-end (clauses levels) h hs [] e m
     go (open_in {x = p} a b y) m = absurd (omega (arith, eqb-true (rank (place h)) (rank p) (opened m).fits))
 
 open-kids : {levels c : ℕ} {ps : List Role} {ws : List Want} → Fine c ps → c ≡ 0 → Open levels ws → Open levels (map (wanted levels) ps ++ ws)
 unfolding rank
 open-kids empty e y = y
-open-kids (also fine-plain x) e y = open_in {x = expression_place} (omega arith) (λ z. omega arith) (open-kids x e y)
-open-kids (also fine-condition x) e y = open_in {x = expression_place} (omega arith) (λ z. omega arith) (open-kids x e y)
-open-kids (also fine-answer x) e y = open_in {x = expression_place} (omega arith) (λ z. omega arith) (open-kids x e y)
-open-kids (also (fine-inner p a b o) x) e y = open_in a (λ z. omega (arith, o z)) (open-kids x e y)
+open-kids (also fine_plain x) e y = open_in {x = expression_place} (omega arith) (λ z. omega arith) (open-kids x e y)
+open-kids (also fine_condition x) e y = open_in {x = expression_place} (omega arith) (λ z. omega arith) (open-kids x e y)
+open-kids (also fine_answer x) e y = open_in {x = expression_place} (omega arith) (λ z. omega arith) (open-kids x e y)
+open-kids (also (fine_inner p a b o) x) e y = open_in a (λ z. omega (arith, o z)) (open-kids x e y)
 
 -- below a line that is no expression the depth is the same
 same-depth : (levels : ℕ) (p : Place) → (rank p ≡ 13 → ⊥) → deeper (at p levels) ≡ levels
@@ -478,12 +478,12 @@ stand-skip {levels = levels} env n h hs x ne nl = go x.opens x.met
     done w ws e m y = let s = out-skip env n w ws h hs [] e m in record { next = record { wants = under w h ++ ws; opens = y; met = (opened m).below }; tops = s.0; tests = s.1 }
 
     go : {ws : List Want} → Open levels ws → Met ws (h ∷ hs) [] → Skipped levels env n h hs
-    go open-top m =
+    go open_top m =
         let c = clause-rank levels (rank (place h)) (opened m).fits in
         let e : rule h ≡ silent = top-silent h (omega (arith, c.1)) in
         let two : rank (place h) ≡ 2 = between (rank (place h)) c nl in
         let u : under (clauses levels) h ≡ map (wanted levels) (roles h) ++ (clauses levels ∷ []) = ap (λ (z : List Want). map (wanted levels) (roles h) ++ z) (after-clause levels h two) in
-        done (clauses levels) [] e m (subst (Open levels) (sym (append-nil (under (clauses levels) h))) (subst (Open levels) (sym u) (kids e open-top)))
+        done (clauses levels) [] e m (subst (Open levels) (sym (append-nil (under (clauses levels) h))) (subst (Open levels) (sym u) (kids e open_top)))
     go (open_in {x = p} {ws = ws} a b y) m =
         let f = eqb-true (rank (place h)) (rank p) (opened m).fits in
         let e : rule h ≡ silent = line-silent h ne (λ z. b (sym f ∙ z)) in
@@ -495,7 +495,7 @@ unfolding fits
 stand-expr {levels = levels} env n h hs x e = go x.opens x.met
   where
     go : {ws : List Want} → Open levels ws → Met ws (h ∷ hs) [] → Typed levels env n h hs (step env n h (take (arity h) (walk env (suc n) hs)))
-    go open-top m = absurd (omega (arith, (clause-rank levels (rank (place h)) (opened m).fits).1))
+    go open_top m = absurd (omega (arith, (clause-rank levels (rank (place h)) (opened m).fits).1))
     go (open_in {x = p} {ws = ws} a b y) m =
         let q = line-typed h e in
         let o = opened m in

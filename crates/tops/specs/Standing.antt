@@ -7,7 +7,7 @@ use Rattle.tops.specs.Tops.{top_of, out_tops}
 
 -- the wants before a line to which the report comes, all with the levels of the sheet left: places inside a clause, none of an entry, not below an expression, and last the clauses
 pub data Open (levels : ℕ) : List Want → Type 0 where
-  open-top : Open levels (clauses levels ∷ [])
+  open_top : Open levels (clauses levels ∷ [])
   open_in : {x : Place} {ws : List Want} → 3 < rank x → (rank x ≡ 11 → ⊥) → Open levels ws → Open levels (at x levels ∷ ws)
 
 -- the report is before these lines

@@ -30,7 +30,7 @@ use Rattle.ty.specs.Keys.{NameBelow}
 use Rattle.ty.specs.Skip.{next_field}
 use Rattle.ty.proofs.Lines.{line-to, name-to, nesting-line, nesting-pos}
 use Rattle.ty.proofs.Skips.{type-room}
-use Rattle.ty.proofs.NameLaws.{name-append, name-long, name-drop, name-ends, name-part, lex-hex}
+use Rattle.ty.proofs.NameLaws.{name-append, name-long, name-drop, name-ends, name_part, lex-hex}
 use Rattle.ty.proofs.MergeLaws.{drop-part}
 
 -- ## The bytes that are moved
@@ -339,8 +339,8 @@ at_last s x len fs n q front k h = at-end fs n q len (map-long s x len fs n fron
 pub look : (s x : Bytes) (len : ℕ) (fs : Fields) (n : Bytes) (q : ℕ) → MapFront s len x fs n → Looking fs n q → q < len - 2 → Met fs n q
 look s x len fs n q front k h = met fs n q k (omega (arith, h, map-long s x len fs n front))
 
-pub q-in : (s x : Bytes) (len : ℕ) (fs : Fields) (n : Bytes) (q : ℕ) → MapFront s len x fs n → q < len - 2 → q ≤ length s
-q-in s x len fs n q front h = let i = front.at.inside in omega arith
+pub q_in : (s x : Bytes) (len : ℕ) (fs : Fields) (n : Bytes) (q : ℕ) → MapFront s len x fs n → q < len - 2 → q ≤ length s
+q_in s x len fs n q front h = let i = front.at.inside in omega arith
 
 -- the entry that is met, in the text
 module _ (s x : Bytes) (len : ℕ) (fs : Fields) (n : Bytes) (q : ℕ) (front : MapFront s len x fs n) (k : Met fs n q) where
@@ -391,7 +391,7 @@ module _ (s x : Bytes) (len : ℕ) (fs : Fields) (n : Bytes) (q : ℕ) (front : 
       -- the order of the two names, as the code compares them
       met-order : (o y : Order) → order_of o ≡ lex (take (c - q) (drop q s)) x → o ≡ y → lex k.name n ≡ order_of y
       met-order o y p t =
-          sym (lex-hex k.name n) ∙ ap₂ lex (sym (part_slice q c s ∙ name-part s q c k.name met-head ends)) (sym front.spelt) ∙ sym p ∙ ap order_of t
+          sym (lex-hex k.name n) ∙ ap₂ lex (sym (part_slice q c s ∙ name_part s q c k.name met-head ends)) (sym front.spelt) ∙ sym p ∙ ap order_of t
 
       module _ (o : Order) (compared : order_of o ≡ lex (take (c - q) (drop q s)) x) where
         -- it comes before: the search goes on behind it

@@ -145,8 +145,8 @@ union-no-letter (t_union ts) h = absurd (h refl)
 -- ## Names
 
 -- a name in its place: its text, and the comma behind it
-pub name-part : (s : Bytes) (q : ℕ) (n x : Bytes) → drop q s ≡ name_to n x → slice q (q + index_of 44 (drop q s)) s ≡ name_f n
-name-part s q n x e =
+pub name_part : (s : Bytes) (q : ℕ) (n x : Bytes) → drop q s ≡ name_to n x → slice q (q + index_of 44 (drop q s)) s ≡ name_f n
+name_part s q n x e =
     let g = e ∙ name-to n x in
     let i : index_of 44 (drop q s) ≡ length (map hex n) = ap (index_of 44) g ∙ comma-at (map hex n) x (hex-bytes n) in
     rw i (part s q (map hex n) (44 ∷ x) g)
@@ -159,7 +159,7 @@ pub name-yes : (s : Bytes) (q n x : _) → Name n → drop q s ≡ name_to n x �
 unfolding name_in
 name-yes s q n x h e =
     let p = name-past s q n x e in
-    let g : read_name (slice q (q + index_of 44 (drop q s)) s) ≡ some n = ap read_name (name-part s q n x e) ∙ read_name_lem n h in
+    let g : read_name (slice q (q + index_of 44 (drop q s)) s) ≡ some n = ap read_name (name_part s q n x e) ∙ read_name_lem n h in
     rw (lt-ltb (q + index_of 44 (drop q s)) (length s) p.0, g)
 
 pub record Spelt (s : Bytes) (q : ℕ) : Type 0 where

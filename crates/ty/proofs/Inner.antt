@@ -21,7 +21,7 @@ use Rattle.ty.specs.Read.{field_at, kind_of, content_of, Fine, Within, goes_in, 
 use Rattle.ty.proofs.Lines.{line-to}
 use Rattle.ty.proofs.Places.{part, byte_at}
 use Rattle.ty.proofs.Skips.{name-past, type-inside}
-use Rattle.ty.proofs.Fields.{field-yes, field_is, content_t, content-kind, content-pos, type-byte, union-letter, union-no-letter, name-part, name-yes, name-read, names-ascend, ascend-names, After, after_on, after-back, after_none}
+use Rattle.ty.proofs.Fields.{field-yes, field_is, content_t, content-kind, content-pos, type-byte, union-letter, union-no-letter, name_part, name-yes, name-read, names-ascend, ascend-names, After, after_on, after-back, after_none}
 
 -- ## What is left of a type's parts
 
@@ -114,7 +114,7 @@ module _ (s : Bytes) (prev q n l : ℕ) (r : Bytes) where
 
     entry_key : (p : ℕ) → key_of 75 s q p ≡ name_f m
     unfolding key_end
-    entry_key p = name-part s q m (line_to t (fields_to fs r)) e
+    entry_key p = name_part s q m (line_to t (fields_to fs r)) e
 
     entry_next : (b : Bool) → FineF b n (key_of 75 s prev q) (field m t fs) → (p : ℕ) → Fine b t × Allows b 75 s prev q p n × FineF b (n + 1) (key_of 75 s q p) fs
     unfolding names allowed key_end
@@ -212,7 +212,7 @@ module _ (s : Bytes) (prev q n e : ℕ) (t : Ty) where
       → FineF b (n + 1) (key_of 75 s q e) fs → FineF b n (key_of 75 s prev q) (field m t fs)
   unfolding names allowed key_end
   entry-back true m fs x o w y f =
-      let key = name-part s q m (drop (value_at 75 s q) s) x in
+      let key = name_part s q m (drop (value_at 75 s q) s) x in
       let p = ((and-eq-true_iff (name_in s q (q + index_of 44 (drop q s))) (in_order n (key_of 75 s prev q) (key_of 75 s q e))).0 y).1 in
       ((o, w.0, f.0), (w.1, f.1), after-back n (key_of 75 s prev q) (name_f m) (map name_f (names fs)) (rw key at p) (rw key at f.2))
   entry-back false m fs x o w y f = tt

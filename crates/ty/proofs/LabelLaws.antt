@@ -85,10 +85,10 @@ pub record Turn (s : Bytes) (m : Merge) (to ae be : ℕ) (whole : Bytes) : Type 
   pub ks : List Bytes
   pub first : slice m.p ae s ≡ names_to ls []
   pub second : slice m.q be s ≡ names_to ks []
-  pub p-in : m.p ≤ ae
-  pub q-in : m.q ≤ be
-  pub p-below : ae ≤ to
-  pub q-below : be ≤ to
+  pub p_in : m.p ≤ ae
+  pub q_in : m.q ≤ be
+  pub p_below : ae ≤ to
+  pub q_below : be ≤ to
   pub kept : Kept s to m.n acc
   pub is : acc ++ names_to (insert_names ks ls) [] ≡ whole
   pub ascends : Ascends ks
@@ -97,10 +97,10 @@ abbrev pub Next : {s : Bytes} {m : Merge} {to ae be : ℕ} {whole : Bytes} → T
 Next t x = x ≡ next_of (first_of t.ls) (first_of t.ks)
 
 pub first_head : {s : Bytes} {m : Merge} {to ae be : ℕ} {whole : Bytes} (t : Turn s m to ae be whole) → HeadAt s m.p (first_of t.ls)
-first_head {s} {m} {to} {ae} {be} t = names-head s m.p ae t.ls t.p-in t.first
+first_head {s} {m} {to} {ae} {be} t = names-head s m.p ae t.ls t.p_in t.first
 
 pub second_head : {s : Bytes} {m : Merge} {to ae be : ℕ} {whole : Bytes} (t : Turn s m to ae be whole) → HeadAt s m.q (first_of t.ks)
-second_head {s} {m} {to} {ae} {be} t = names-head s m.q be t.ks t.q-in t.second
+second_head {s} {m} {to} {ae} {be} t = names-head s m.q be t.ks t.q_in t.second
 
 -- what a turn takes: the name n with its comma, of the first list, of the second, or of both
 pub data Takes (s : Bytes) (m : Merge) (to ae be : ℕ) (whole : Bytes) : ℕ → Type 0 where
@@ -150,10 +150,10 @@ next-turn s m to ae be whole from k p' q' acc n ls ks room h l e pi qi pb qb f g
       ks = ks;
       first = part_same s (kept_text s from k to m.n) p' ae to pb (kept-below s from k to m.n) ∙ f;
       second = part_same s (kept_text s from k to m.n) q' be to qb (kept-below s from k to m.n) ∙ g;
-      p-in = pi;
-      q-in = qi;
-      p-below = pb;
-      q-below = qb;
+      p_in = pi;
+      q_in = qi;
+      p_below = pb;
+      q_below = qb;
       kept = kept_more s from k to m.n acc (name_to n []) h room e l;
       is = append_assoc acc (name_to n []) (names_to (insert_names ks ls) []) ∙ ap (λ (r : Bytes). acc ++ r) (sym (names-split n (insert_names ks ls))) ∙ i;
       ascends = a;
@@ -217,7 +217,7 @@ stepped s m to ae be whole x room pi qi pb qb (both acc n ls ks f g h i a) =
     }
 
 pub step : {s : Bytes} {m : Merge} {to ae be : ℕ} {whole : Bytes} (x : ℕ) (t : Turn s m to ae be whole) → Next t x → x < 3 → to + 1024 ≤ length s → Step s m to ae be whole x
-step {s} {m} {to} {ae} {be} {whole} x t e h room = stepped s m to ae be whole x room t.p-in t.q-in t.p-below t.q-below (takes x t e h)
+step {s} {m} {to} {ae} {be} {whole} x t e h room = stepped s m to ae be whole x room t.p_in t.q_in t.p_below t.q_below (takes x t e h)
 
 -- ## The loop
 
@@ -268,10 +268,10 @@ module _ (s s₀ : Bytes) (a b to : ℕ) (room : to + 1024 ≤ length s) (copy :
         ks = ks;
         first = hr;
         second = gr;
-        p-in = hi;
-        q-in = gi;
-        p-below = h.below;
-        q-below = g.below;
+        p_in = hi;
+        q_in = gi;
+        p_below = h.below;
+        q_below = g.below;
         kept = kept-first s₀ to (76 ∷ 44 ∷ 43 ∷ 44 ∷ []) (omega arith) (omega arith)
             (ap (λ (w : Bytes). slice to (to + 4) w) copy ∙ copied s a to 4 (omega (arith, hi, h.below, room)) (omega (arith, room)) ∙ four);
         is = unfold line line_to labels_to in ap (λ (r : List Bytes). 76 ∷ 44 ∷ 43 ∷ 44 ∷ names_to (insert_names ks r) []) (sym (insert-own ls (ascends-sound ls h.ascends)));

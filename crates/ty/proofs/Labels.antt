@@ -24,7 +24,7 @@ use Rattle.ty.specs.declared.end.TypeEnd.TheVariants.{End, Bad}
 use Rattle.ty.specs.Skip.{next_field}
 use Rattle.ty.specs.Read.{field_at, key_end, key_of, in_order, name_in, allowed, LabelsRead, NodeRead, RelRead}
 use Rattle.ty.proofs.Skips.{name-past}
-use Rattle.ty.proofs.Fields.{and_no, field-yes, field_is, name-part, name-yes, Spelt, name-read, names-ascend, ascend-names, After, after_on, after-back, after_none}
+use Rattle.ty.proofs.Fields.{and_no, field-yes, field_is, name_part, name-yes, Spelt, name-read, names-ascend, ascend-names, After, after_on, after-back, after_none}
 
 -- ## The test of a name
 
@@ -79,7 +79,7 @@ pub record Naming (s : Bytes) (at prev q n : ℕ) : Type 0 where
   pub order : prev ≤ q
   pub inside : q ≤ length s
   pub to : (ns : List Bytes) (r : Bytes) → drop at s ≡ names_to ns r → Names ns × Ascends ns → LeftNames n (key_of 75 s prev q) (drop q s) r
-  pub from-rest : (r : Bytes) → LeftNames n (key_of 75 s prev q) (drop q s) r → (ns : List Bytes) × (drop at s ≡ names_to ns r) × (Names ns × Ascends ns)
+  pub from_rest : (r : Bytes) → LeftNames n (key_of 75 s prev q) (drop q s) r → (ns : List Bytes) × (drop at s ≡ names_to ns r) × (Names ns × Ascends ns)
 
 pub naming : (s : Bytes) (at : ℕ) → at ≤ length s → Naming s at at at 0
 naming s at h =
@@ -88,7 +88,7 @@ naming s at h =
       order = omega arith;
       inside = h;
       to = λ ns r e w. (ns, e, w.0, names-ascend ns w.1);
-      from-rest = λ r x. (x.0, x.1, (x.2, ascend-names x.0 x.3));
+      from_rest = λ r x. (x.0, x.1, (x.2, ascend-names x.0 x.3));
     }
 
 module _ (s : Bytes) (at prev q n : ℕ) (i : Naming s at prev q n) (g : field_at s q 33 ≡ false) where
@@ -100,7 +100,7 @@ module _ (s : Bytes) (at prev q n : ℕ) (i : Naming s at prev q n) (g : field_a
           → (allowed 75 s prev q q n ≡ true) × LeftNames (n + 1) (key_of 75 s q (next_field s q)) (drop (next_field s q) s) r
       go [] e w a = absurd (false≢true (sym g ∙ field_is s q 33 r e))
       go (m ∷ ns) e w a =
-          let key = name-part s q m (names_to ns r) e in
+          let key = name_part s q m (names_to ns r) e in
           let (y, h) = after_on n (key_of 75 s prev q) (name_f m) (map name_f ns) a in
           (rw (name-yes s q m (names_to ns r) w.0 e, key) y, (ns, (name-past s q m (names_to ns r) e).1, w.1, rw key h))
 
@@ -133,14 +133,14 @@ module _ (s : Bytes) (at prev q n : ℕ) (i : Naming s at prev q n) (g : field_a
           order = omega arith;
           inside = omega (arith, name-comma);
           to = λ ns r e w. (left-on r (i.to ns r e w)).1;
-          from-rest = λ r x. i.from-rest r (left_back r x);
+          from_rest = λ r x. i.from_rest r (left_back r x);
         })
 
 pub names-end : (s : Bytes) (at prev q n : ℕ) → Naming s at prev q n → field_at s q 33 ≡ true → LabelsRead s at (End (q + 2))
 unfolding names_to
 names-end s at prev q n i g =
     let (d, l) = field-yes s q 33 g in
-    let (ns, e, w) = i.from-rest (drop (q + 2) s) ([], d, tt, after_none n (key_of 75 s prev q)) in
+    let (ns, e, w) = i.from_rest (drop (q + 2) s) ([], d, tt, after_none n (key_of 75 s prev q)) in
     (ns, e, w, omega (arith, i.from), l)
 
 -- ## What a node type and a relationship type hold

@@ -154,8 +154,8 @@ drop-end (b ∷ f) r = drop-end f r
 record Quiet (c : ℕ) : Type 0 where
   same : (k : ℕ) → opened_by c k ≡ k
   test : (k : ℕ) → goes_on c k ≡ ltb 0 k
-  not-close : c ≡ 33 → ⊥
-  not-rel : c ≡ 77 → ⊥
+  not_close : c ≡ 33 → ⊥
+  not_rel : c ≡ 77 → ⊥
 
 quiet : (c : ℕ) → (c ≡ 33 → ⊥) → (c ≡ 74 → ⊥) → (c ≡ 75 → ⊥) → (c ≡ 76 → ⊥) → (c ≡ 77 → ⊥) → (c ≡ 79 → ⊥) → Quiet c
 unfolding opened_by goes_on
@@ -163,8 +163,8 @@ quiet c h33 h74 h75 h76 h77 h79 =
     record {
       same = λ k. rw (ne_eqb c 33 h33, ne_eqb c 75 h75, ne_eqb c 76 h76, ne_eqb c 79 h79);
       test = λ k. rw (ne_eqb c 74 h74);
-      not-close = h33;
-      not-rel = h77;
+      not_close = h33;
+      not_rel = h77;
     }
 
 unfoldable pub special : ℕ → Bool
@@ -198,7 +198,7 @@ module _ (rest : Bytes) where
       word {x = x} {y = c ∷ (f ++ (44 ∷ x))} c refl u v (rw e (omega (arith, length-append f (44 ∷ x)))) (rw e (rw add-one (sym (drop-end (c ∷ f) x)))) w
 
   quiet-skip : (k c : ℕ) (f x : Bytes) → NoComma (c ∷ f) → Quiet c → Skip rest (ltb 0 k) k x → Skip rest true k (c ∷ (f ++ (44 ∷ x)))
-  quiet-skip k c f x h q w = field_skip k c f x h (λ e. absurd (q.not-close e)) q.not-rel (rw (q.same, q.test) w)
+  quiet-skip k c f x h q w = field_skip k c f x h (λ e. absurd (q.not_close e)) q.not_rel (rw (q.same, q.test) w)
 
   comma-skip : (k : ℕ) (x : Bytes) → Skip rest (ltb 0 k) k x → Skip rest true k (44 ∷ x)
   unfolding index_of opened_by goes_on
@@ -257,6 +257,6 @@ module _ (s : Bytes) (t : Ty) (e : s ≡ line (t_list t)) where
   unfolding line line_to
   list-room = rw e (omega arith)
 
-  pub list-part : take (length s - 2) (drop 2 s) ≡ line t
+  pub list_part : take (length s - 2) (drop 2 s) ≡ line t
   unfolding line line_to
-  list-part = rw e (take_all (suc (suc (length (line_to t []))) - 2) (line_to t []) (omega arith))
+  list_part = rw e (take_all (suc (suc (length (line_to t []))) - 2) (line_to t []) (omega arith))

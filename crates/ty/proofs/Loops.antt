@@ -29,7 +29,7 @@ pub record Reading (b : Bool) (s : Bytes) (at left k prev q n : ℕ) : Type 0 wh
   pub kind : content_of k ≡ 4
   pub few : k ≡ 74 → n ≤ 1
   pub to : (t : Ty) (r : Bytes) → drop at s ≡ line_to t r → Within b left t → Goes b n (left - 1) (key_of k s prev q) (drop q s) r k
-  pub from-rest : (r : Bytes) → Goes b n (left - 1) (key_of k s prev q) (drop q s) r k → (t : Ty) × (drop at s ≡ line_to t r) × Within b left t
+  pub from_rest : (r : Bytes) → Goes b n (left - 1) (key_of k s prev q) (drop q s) r k → (t : Ty) × (drop at s ≡ line_to t r) × Within b left t
 
 pub value-bounds : (k : ℕ) (s : Bytes) (q : ℕ) → q ≤ length s → (q ≤ value_at k s q) × (value_at k s q ≤ length s)
 unfolding value_at
@@ -54,7 +54,7 @@ reading b s at left k z d c =
       kind = c;
       few = λ e. omega arith;
       to = λ t r e w. enter b k (left - 1) (key_of k s (at + 2) (at + 2)) (drop (at + 2) s) r t c (sym d.0 ∙ e) (rw l w);
-      from-rest = λ r g. let (t, e, w) = entered g in (t, d.0 ∙ e, rw l at w);
+      from_rest = λ r g. let (t, e, w) = entered g in (t, d.0 ∙ e, rw l at w);
     }
 
 goes-once : (s : Bytes) (q n : ℕ) → goes_in 74 s q n ≡ true → n ≡ 0
@@ -89,7 +89,7 @@ module _ (b : Bool) (s : Bytes) (at left k prev q n : ℕ) (i : Reading b s at l
           kind = i.kind;
           few = λ z. omega (arith, goes-once s q n (rw z at g));
           to = λ t r d u. (at_next t r d u).1;
-          from-rest = λ r x. i.from-rest r (back s prev q n e w.0 refl refl refl w.1 w.2 w.4 al ld x);
+          from_rest = λ r x. i.from_rest r (back s prev q n e w.0 refl refl refl w.1 w.2 w.4 al ld x);
         }
 
 module _ (s : Bytes) (at left k prev q n : ℕ) (i : Reading true s at left k prev q n) (g : goes_in k s q n ≡ true) (e : ℕ) (w : TypeRead true s (value_at k s q) (left - 1) (End e)) where
@@ -111,7 +111,7 @@ pub parts-end : (b : Bool) (s : Bytes) (at left k prev q n : ℕ) → Reading b 
     → TypeRead b s at left (End (end_at k q))
 parts-end b s at left k prev q n i g h =
     let (x, y) = finish b s k q n (left - 1) (key_of k s prev q) i.kind g i.few i.inside h in
-    let (t, e, w) = i.from-rest (drop (end_at k q) s) x in
+    let (t, e, w) = i.from_rest (drop (end_at k q) s) x in
     (t, e, w, end-bounds k q at n i.from, y)
 
 pub parts-short : (s : Bytes) (at left k prev q n : ℕ) → Reading true s at left k prev q n → goes_in k s q n ≡ false → k ≡ 79 → n < 2 → TypeRead true s at left Bad

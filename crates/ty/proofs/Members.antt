@@ -115,8 +115,8 @@ one_type {t = t} f = record { ordered = f.ordered; inside = f.inside; is = f.is 
 pub as-types : {s : Bytes} {a e : ℕ} {t : Ty} → TypeAt s a e t → TypesAt s a e (t ∷ [])
 as-types {t = t} f = record { ordered = f.ordered; inside = f.inside; is = f.is ∙ sym (one_line t) }
 
-pub first-at : {s : Bytes} {a e : ℕ} {t : Ty} {ts : List Ty} → TypesAt s a e (t ∷ ts) → TypeAt s a (a + length (line t)) t
-first-at {s} {a} {e} {t} {ts} f = rw (one_line t) at (one_type (types-split (t ∷ []) ts f).0)
+pub first_at : {s : Bytes} {a e : ℕ} {t : Ty} {ts : List Ty} → TypesAt s a e (t ∷ ts) → TypeAt s a (a + length (line t)) t
+first_at {s} {a} {e} {t} {ts} f = rw (one_line t) at (one_type (types-split (t ∷ []) ts f).0)
 
 pub others-at : {s : Bytes} {a e : ℕ} {t : Ty} {ts : List Ty} → TypesAt s a e (t ∷ ts) → TypesAt s (a + length (line t)) e ts
 others-at {s} {a} {e} {t} {ts} f = rw (one_line t) at (types-split (t ∷ []) ts f).1

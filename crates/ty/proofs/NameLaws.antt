@@ -102,9 +102,9 @@ unfolding head_to
 name-ends s p r n h e = e.place ∙ ap (λ (k : ℕ). p + k) (ap (index_of 44) h.is ∙ name-index n h.rest)
 
 -- its digits
-pub name-part : (s : Bytes) (p r : ℕ) (n : Bytes) → HeadAt s p (some n) → Ends 44 s p r → slice p r s ≡ map hex n
+pub name_part : (s : Bytes) (p r : ℕ) (n : Bytes) → HeadAt s p (some n) → Ends 44 s p r → slice p r s ≡ map hex n
 unfolding head_to
-name-part s p r n h e =
+name_part s p r n h e =
     ap (λ (k : ℕ). slice p k s) (name-ends s p r n h e) ∙ sym (take-drop (length n) p s) ∙ ap (take (length n)) h.is ∙ name-take n h.rest
 
 -- ## What `next_name` answers
@@ -133,4 +133,4 @@ unfolding next_of
 next-compared s p q pe qe none u x y h k a b e f c t = absurd (a (head-end s p h))
 next-compared s p q pe qe (some n) none x y h k a b e f c t = absurd (b (head-end s q k))
 next-compared s p q pe qe (some n) (some m) x y h k a b e f c t =
-    ap next_by (sym (ap order_of t) ∙ c ∙ ap₂ lex (name-part s p pe n h e) (name-part s q qe m k f) ∙ lex-hex n m)
+    ap next_by (sym (ap order_of t) ∙ c ∙ ap₂ lex (name_part s p pe n h e) (name_part s q qe m k f) ∙ lex-hex n m)

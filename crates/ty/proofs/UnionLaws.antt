@@ -20,7 +20,7 @@ use Rattle.ty.specs.declared.union.Slot.{Slot}
 use Rattle.ty.specs.declared.union.Slot.TheVariants.{At, There}
 use Rattle.ty.specs.declared.union.Rest.{Rest}
 use Rattle.ty.specs.declared.Grown.{Grown}
-use Rattle.ty.proofs.Members.{line-long, lines-append, drop-at-two, union-line, members-pack, types_long, types-whole, types-at, first-from, no-types, types-split, one_line, first-at, others-at, insert-past, insert-there, insert-here}
+use Rattle.ty.proofs.Members.{line-long, lines-append, drop-at-two, union-line, members-pack, types_long, types-whole, types-at, first-from, no-types, types-split, one_line, first_at, others-at, insert-past, insert-there, insert-here}
 
 -- ## `place`: the members before the byte q are less than x
 
@@ -68,7 +68,7 @@ reached-more {s} {n} {ms} {x} {q} f r h = go r.after (reached-rest f r) r.member
           at = r.at;
           inserted = i;
           from = first-from k;
-          type = first-at k;
+          type = first_at k;
           inside = (others-at k).ordered;
         }
 
@@ -127,18 +127,18 @@ pub record PlaceInv (s : Bytes) (n m q : ℕ) : Type 0 where
   pub reached : (ms : List Ty) (x : Ty) → TypesAt s 0 n ms → TypeAt s n m x → Reached ms x q
 
 module _ {s : Bytes} {n m q : ℕ} (p : Placing s n m) (i : PlaceInv s n m q) (h : q < n) where
-  abbrev pub place-more : More s n p.members p.new.ty q
-  place-more = reached-more p.front (i.reached p.members p.new.ty p.front p.new.at) h
+  abbrev pub place_more : More s n p.members p.new.ty q
+  place_more = reached-more p.front (i.reached p.members p.new.ty p.front p.new.at) h
 
   pub place-from : TypeFrom s q
-  place-from = record { ty = place-more.this; rest = lines_of place-more.after ++ drop n s; is = place-more.from }
+  place-from = record { ty = place_more.this; rest = lines_of place_more.after ++ drop n s; is = place_more.from }
 
   -- where the member at q ends
   pub place_end : {e : ℕ} → EndsAt s q e → (q < e) × (e ≤ n) × (n ≤ m) × (m ≤ length s)
   place_end {e} ends =
-      let z : e ≡ q + length (line place-more.this) = ends place-more.this (lines_of place-more.after ++ drop n s) place-more.from in
-      let l = line-long place-more.this in
-      let k = place-more.inside in
+      let z : e ≡ q + length (line place_more.this) = ends place_more.this (lines_of place_more.after ++ drop n s) place_more.from in
+      let l = line-long place_more.this in
+      let k = place_more.inside in
       (omega arith, omega arith, p.new.at.ordered, p.new.at.inside)
 
 -- ## `add_next`: the first type goes in
@@ -159,7 +159,7 @@ module _ {s : Bytes} {n e : ℕ} {x : Ty} {ts : List Ty} (g : TypesAt s n e (x �
   next-end ends = ends x (lines_of ts ++ drop e s) (first-from g)
 
   pub next-at : {m : ℕ} → EndsAt s n m → TypeAt s n m x
-  next-at ends = rw (next-end ends) (first-at g)
+  next-at ends = rw (next-end ends) (first_at g)
 
   pub next-others : {m : ℕ} → EndsAt s n m → TypesAt s m e ts
   next-others ends = rw (next-end ends) (others-at g)

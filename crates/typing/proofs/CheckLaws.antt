@@ -8,7 +8,7 @@ use borrow.Author.Tests.{lt-ltb, le-ltb}
 use Rattle.semantics.specs.Limits.{sheet_limit, depth_limit}
 use Rattle.semantics.specs.Bytes.{Bytes}
 use Rattle.semantics.specs.Sheet.{sheet}
-use Rattle.hir.specs.Check.{OutlineAs, is-refused, is-laid}
+use Rattle.hir.specs.Check.{OutlineAs, is_refused, is_laid}
 use Rattle.hir.specs.declared.valid.Outline.{Outline}
 use Rattle.typing.specs.Checking.{CheckedAs, checked_by, checked, check_call}
 
@@ -25,10 +25,10 @@ by-sheet s h = ap (chosen s) (le-ltb sheet_limit (length s) h)
 
 pub accepted : (s : Bytes) (o : Outline) → length s ≤ sheet_limit → OutlineAs depth_limit s o → o.why ≡ 0 → checked_by 0 0 ≡ check_call s
 unfolding checked
-accepted s o h (is-refused p _) z = absurd (omega arith)
-accepted s o h (is-laid _ l) z = sym (by-sheet s h ∙ ap checked l.same)
+accepted s o h (is_refused p _) z = absurd (omega arith)
+accepted s o h (is_laid _ l) z = sym (by-sheet s h ∙ ap checked l.same)
 
 pub refused : (s : Bytes) (o : Outline) → length s ≤ sheet_limit → OutlineAs depth_limit s o → (o.why ≡ 0 → ⊥) → checked_by o.why o.line.0 ≡ check_call s
 unfolding checked
-refused s o h (is-refused _ e) z = sym (by-sheet s h ∙ ap checked e)
-refused s o h (is-laid e _) z = absurd (z e)
+refused s o h (is_refused _ e) z = sym (by-sheet s h ∙ ap checked e)
+refused s o h (is_laid e _) z = absurd (z e)

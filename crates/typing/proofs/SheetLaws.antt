@@ -16,8 +16,8 @@ use Rattle.semantics.specs.Walk.{Top, env_of, walk, results, all_tests, typing}
 use Rattle.semantics.specs.Calls.{first_large, report, Outcome, refusal, accepted, limited, judged, outcome, refused_text, outcome_text, sheet_text, Settled, untouched, cleared, answered, settled, sheet_call}
 use Rattle.semantics.proofs.Causes.{FineSheet, sheet-fine}
 use Rattle.line.specs.declared.line.HirId.{HirId}
-use Rattle.hir.specs.Lines.{Lines, no_line, a-line}
-use Rattle.hir.specs.Check.{Laid, OutlineAs, is-refused, is-laid}
+use Rattle.hir.specs.Lines.{Lines, no_line, a_line}
+use Rattle.hir.specs.Check.{Laid, OutlineAs, is_refused, is_laid}
 use Rattle.hir.specs.declared.valid.Outline.{Outline}
 use Rattle.hir.proofs.BindLaws.{kind-type}
 use Rattle.tops.specs.Tops.{out_tops}
@@ -101,14 +101,14 @@ types-refused s work out ask o outlined out' r h e =
     rw e (types-cleared (sheet_call s work out) work out out' o.why o.line.0 h (call-outcome s work out ask.0 ask.1 ∙ go outlined))
   where
     go : OutlineAs depth_limit s o → settled (outcome s) work out ≡ cleared o.why o.line.0 work out
-    go (is-refused _ e) = ap (λ (x : Sheet). settled (judged x) work out) e
-    go (is-laid e _) = absurd (h e)
+    go (is_refused _ e) = ap (λ (x : Sheet). settled (judged x) work out) e
+    go (is_laid e _) = absurd (h e)
 
 -- ## An accepted sheet
 
 lines-on : {s : Bytes} {p q : ℕ} {hs : List Head} → Lines s p hs q → p + length hs ≤ q
 lines-on no_line = omega arith
-lines-on (a-line a x) = omega (arith, a.on, lines-on x)
+lines-on (a_line a x) = omega (arith, a.on, lines-on x)
 
 abbrev binds_of : Outline → Binds
 binds_of o = record { from = o.from; to = o.to }
@@ -117,10 +117,10 @@ abbrev cur_of : Outline → Cur
 cur_of o = record { at = o.to; line = o.line }
 
 module _ (s : Bytes) (o : Outline) (l : Laid depth_limit s o) where
-  abbrev the-heads : List Head
-  the-heads = l.head ∷ (l.binds ++ l.rest)
+  abbrev the_heads : List Head
+  the_heads = l.head ∷ (l.binds ++ l.rest)
 
-  env-as : EnvAs s (binds_of o) (env_of the-heads)
+  env-as : EnvAs s (binds_of o) (env_of the_heads)
   env-as =
       record {
         binds = record { heads = l.binds; lines = l.bound; top = l.top; ascending = l.ascending; inside = omega (arith, lines-on l.below) };
@@ -138,10 +138,10 @@ module _ (s : Bytes) (o : Outline) (l : Laid depth_limit s o) where
       }
 
   the-test : Option ℕ
-  the-test = first_large (all_tests (walk (env_of the-heads) o.line.0 l.rest))
+  the-test = first_large (all_tests (walk (env_of the_heads) o.line.0 l.rest))
 
   the-tops : List Top
-  the-tops = out_tops (env_of the-heads) o.line.0 l.rest
+  the-tops = out_tops (env_of the_heads) o.line.0 l.rest
 
   -- the outcome by what the clauses come to
   outcome-is : outcome s ≡ by-clauses the-test the-tops
@@ -150,20 +150,20 @@ module _ (s : Bytes) (o : Outline) (l : Laid depth_limit s o) where
       let x = laid_out depth_limit s o l in
       let n = sym l.line in
       ap judged l.same
-      ∙ limited-is (first_large (all_tests (results the-heads))) the-heads
+      ∙ limited-is (first_large (all_tests (results the_heads))) the_heads
       ∙ ap₂ by-clauses
-      (ap first_large x.1 ∙ ap (λ (k : ℕ). first_large (all_tests (walk (env_of the-heads) k l.rest))) n)
-      (x.0 ∙ ap (λ (k : ℕ). out_tops (env_of the-heads) k l.rest) n)
+      (ap first_large x.1 ∙ ap (λ (k : ℕ). first_large (all_tests (walk (env_of the_heads) k l.rest))) n)
+      (x.0 ∙ ap (λ (k : ℕ). out_tops (env_of the_heads) k l.rest) n)
 
 accepted-laid : (s : Bytes) (o : Outline) → OutlineAs depth_limit s o → o.why ≡ 0 → Laid depth_limit s o
-accepted-laid s o (is-refused p _) z = absurd (omega arith)
-accepted-laid s o (is-laid _ l) z = l
+accepted-laid s o (is_refused p _) z = absurd (omega arith)
+accepted-laid s o (is_laid _ l) z = l
 
 pub statement-ask : (s work : Bytes) → (length s ≤ sheet_limit) × (length work ≡ work_size) → (o : Outline) → OutlineAs depth_limit s o → o.why ≡ 0
     → (b : Binds) → b ≡ binds_of o → StatementAsk depth_limit s b (cur_of o) work
 statement-ask s work ask o outlined z b e =
     let l = accepted-laid s o outlined z in
-    rw e (record { at = at-clauses s o l ask.0; env = env_of (the-heads s o l); bound = env-as s o l; room = omega (arith, ask.1) })
+    rw e (record { at = at-clauses s o l ask.0; env = env_of (the_heads s o l); bound = env-as s o l; room = omega (arith, ask.1) })
 
 module _ (s work out : Bytes) (ask : (length s ≤ sheet_limit) × (length work ≡ work_size)) (o : Outline) (outlined : OutlineAs depth_limit s o) (zero : o.why ≡ 0)
     (b : Binds) (built : b ≡ binds_of o) (work' out' : Bytes) (m : Report) (p : Reported depth_limit s b (cur_of o) work work' out out' m) where
@@ -178,7 +178,7 @@ module _ (s work out : Bytes) (ask : (length s ≤ sheet_limit) × (length work 
 
   made_as : MadeAs test tops out out' m
   unfolding test tops the-test the-tops at-clauses
-  made_as = p.made (at-clauses s o laid ask.0) (env_of (the-heads s o laid)) (subst (λ (x : Binds). EnvAs s x (env_of (the-heads s o laid))) (sym built) (env-as s o laid))
+  made_as = p.made (at-clauses s o laid ask.0) (env_of (the_heads s o laid)) (subst (λ (x : Binds). EnvAs s x (env_of (the_heads s o laid))) (sym built) (env-as s o laid))
 
   by-test : sheet_call s work out ≡ settled (by-clauses test tops) work out
   unfolding test tops

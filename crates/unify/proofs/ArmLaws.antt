@@ -9,7 +9,7 @@ use lib.Dec.{eqb}
 use Rattle.semantics.specs.Bytes.{Bytes}
 use Rattle.semantics.specs.Ty.{t_any, t_null, t_num, t_unknown, Ty, base, t_list, t_map, t_node, t_relationship, t_union, matches, equal, nesting, is_union}
 use Rattle.semantics.specs.Unify.{Meeting, meeting}
-use Rattle.semantics.proofs.Meetings.{Met, two-numbers, two-lists, two-maps, two-nodes, two-relationships, two-unions, union_left, union_right, no-rule, met}
+use Rattle.semantics.proofs.Meetings.{Met, two_numbers, two_lists, two_maps, two_nodes, two_relationships, two_unions, union_left, union_right, no_rule, met}
 use Rattle.unify_run.specs.Run.{Run, done, mismatch, large, nullable, run_nodes, run_pair, run_arms}
 use Rattle.unify_run.proofs.Size.{nests}
 use Rattle.unify.specs.Codes.{lists_arm, nodes_arm}
@@ -46,15 +46,15 @@ flat_step false p q = q
 
 flat-pair : (rec : Ty → Ty → Run) {a b : Ty} {m : Meeting} → Met a b m → Flat a b (pair_arm m) (run_pair rec m)
 unfolding run_pair flat_run pair_arm has_parts labels_of
-flat-pair rec (two-numbers b c x y) = record { is = λ h. refl }
-flat-pair rec (two-lists t u) = record { is = λ h. absurd (false≢true (sym h)) }
-flat-pair rec (two-maps fs gs) = record { is = λ h. absurd (false≢true (sym h)) }
-flat-pair rec (two-nodes ls ks) = record { is = λ h. refl }
-flat-pair rec (two-relationships m n) = record { is = λ h. refl }
-flat-pair rec (two-unions ts us) = record { is = λ h. absurd (false≢true (sym h)) }
+flat-pair rec (two_numbers b c x y) = record { is = λ h. refl }
+flat-pair rec (two_lists t u) = record { is = λ h. absurd (false≢true (sym h)) }
+flat-pair rec (two_maps fs gs) = record { is = λ h. absurd (false≢true (sym h)) }
+flat-pair rec (two_nodes ls ks) = record { is = λ h. refl }
+flat-pair rec (two_relationships m n) = record { is = λ h. refl }
+flat-pair rec (two_unions ts us) = record { is = λ h. absurd (false≢true (sym h)) }
 flat-pair rec (union_left ts u x) = record { is = λ h. absurd (false≢true (sym h)) }
 flat-pair rec (union_right t us x) = record { is = λ h. absurd (false≢true (sym h)) }
-flat-pair rec (no-rule a b e) = record { is = λ h. refl }
+flat-pair rec (no_rule a b e) = record { is = λ h. refl }
 
 flats : (rec : Ty → Ty → Run) (a b : Ty) → Flat a b (arm_of a b) (run_arms rec a b)
 unfolding run_arms arm_of flat_run
@@ -96,38 +96,38 @@ pair-arms rec a b = (from-five rec a b).is
 pub record Lists (a b : Ty) : Type 0 where
   pub first : Ty
   pub second : Ty
-  pub first-is : a ≡ t_list first
+  pub first_is : a ≡ t_list first
   pub second_is : b ≡ t_list second
 
 pub record Nodes (a b : Ty) : Type 0 where
   pub first : Option (List Bytes)
   pub second : Option (List Bytes)
-  pub first-is : a ≡ t_node first
+  pub first_is : a ≡ t_node first
   pub second_is : b ≡ t_node second
 
 pair-lists : {a b : Ty} {m : Meeting} → Met a b m → pair_arm m ≡ lists_arm → Lists a b
 unfolding pair_arm
-pair-lists (two-numbers b c x y) e = absurd (omega arith)
-pair-lists (two-lists t u) e = record { first = t; second = u; first-is = refl; second_is = refl }
-pair-lists (two-maps fs gs) e = absurd (omega arith)
-pair-lists (two-nodes ls ks) e = absurd (omega arith)
-pair-lists (two-relationships m n) e = absurd (omega arith)
-pair-lists (two-unions ts us) e = absurd (omega arith)
+pair-lists (two_numbers b c x y) e = absurd (omega arith)
+pair-lists (two_lists t u) e = record { first = t; second = u; first_is = refl; second_is = refl }
+pair-lists (two_maps fs gs) e = absurd (omega arith)
+pair-lists (two_nodes ls ks) e = absurd (omega arith)
+pair-lists (two_relationships m n) e = absurd (omega arith)
+pair-lists (two_unions ts us) e = absurd (omega arith)
 pair-lists (union_left ts u x) e = absurd (omega arith)
 pair-lists (union_right t us x) e = absurd (omega arith)
-pair-lists (no-rule a b x) e = absurd (omega arith)
+pair-lists (no_rule a b x) e = absurd (omega arith)
 
 pair-nodes : {a b : Ty} {m : Meeting} → Met a b m → pair_arm m ≡ nodes_arm → Nodes a b
 unfolding pair_arm
-pair-nodes (two-numbers b c x y) e = absurd (omega arith)
-pair-nodes (two-lists t u) e = absurd (omega arith)
-pair-nodes (two-maps fs gs) e = absurd (omega arith)
-pair-nodes (two-nodes ls ks) e = record { first = ls; second = ks; first-is = refl; second_is = refl }
-pair-nodes (two-relationships m n) e = absurd (omega arith)
-pair-nodes (two-unions ts us) e = absurd (omega arith)
+pair-nodes (two_numbers b c x y) e = absurd (omega arith)
+pair-nodes (two_lists t u) e = absurd (omega arith)
+pair-nodes (two_maps fs gs) e = absurd (omega arith)
+pair-nodes (two_nodes ls ks) e = record { first = ls; second = ks; first_is = refl; second_is = refl }
+pair-nodes (two_relationships m n) e = absurd (omega arith)
+pair-nodes (two_unions ts us) e = absurd (omega arith)
 pair-nodes (union_left ts u x) e = absurd (omega arith)
 pair-nodes (union_right t us x) e = absurd (omega arith)
-pair-nodes (no-rule a b x) e = absurd (omega arith)
+pair-nodes (no_rule a b x) e = absurd (omega arith)
 
 pub arm-lists : (a b : Ty) → arm_of a b ≡ lists_arm → Lists a b
 arm-lists a b e = pair-lists (met a b) (sym (pair-arms (λ t u. large) a b (omega arith)).1 ∙ e)

@@ -91,12 +91,12 @@ pub record FirstAt (s : Bytes) (p mark : ℕ) (n : Bytes) (t : Ty) (fs : Fields)
   pub rest : Bytes
   pub from : drop p s ≡ name_to n (line_to t rest)
   pub part : slice p (p + k) s ≡ name_to n (line t)
-  pub name-part : slice p (p + (length n + 1)) s ≡ name_to n []
+  pub name_part : slice p (p + (length n + 1)) s ≡ name_to n []
   pub value : Operand s (p + (length n + 1)) (p + k) mark t
   pub others : EntriesAt s (p + k) mark fs
 
-pub first-at : (s : Bytes) (p mark : ℕ) (n : Bytes) (t : Ty) (fs : Fields) (k : ℕ) → k ≡ length n + 1 + length (line t) → EntriesAt s p mark (field n t fs) → FirstAt s p mark n t fs k
-first-at s p mark n t fs k e h =
+pub first_at : (s : Bytes) (p mark : ℕ) (n : Bytes) (t : Ty) (fs : Fields) (k : ℕ) → k ≡ length n + 1 + length (line t) → EntriesAt s p mark (field n t fs) → FirstAt s p mark n t fs k
+first_at s p mark n t fs k e h =
     go (split-part s p h.end (name_to n []) (line t ++ fields_to fs []) h.ordered h.inside whole)
   where
     whole : slice p h.end s ≡ name_to n [] ++ (line t ++ fields_to fs [])
@@ -135,7 +135,7 @@ first-at s p mark n t fs k e h =
               part = ap (λ (j : ℕ). slice p j s) end_is
                   ∙ sym (slice-join p (p + length (name_to n [])) (p + length (name_to n []) + length (line t)) s (omega arith) (omega arith))
                   ∙ ap₂ (λ (x y : Bytes). x ++ y) part value ∙ name-append n [] (line t);
-              name-part = ap (λ (j : ℕ). slice p j s) name-is ∙ part;
+              name_part = ap (λ (j : ℕ). slice p j s) name-is ∙ part;
               value = record {
                 at = record { ordered = omega (arith, e); inside = omega (arith, end_is); is = ap₂ (λ (i j : ℕ). slice i j s) name-is end_is ∙ value };
                 below = omega (arith, end_is);

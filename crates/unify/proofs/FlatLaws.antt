@@ -143,15 +143,15 @@ module _ {s : Bytes} {arm a ae b be mark : ℕ} (p : ArmReady s arm a ae b be ma
   pub second-operand : SomeOperand s b be mark
   second-operand = record { ty = p.ready.right; at = p.ready.second; room = flat-room }
 
-  pub two-nodes : arm ≡ 8 → SomeNodes s a b mark
-  two-nodes e =
+  pub two_nodes : arm ≡ 8 → SomeNodes s a b mark
+  two_nodes e =
       let n = arm-nodes p.ready.left p.ready.right (sym p.is ∙ e) in
       record {
-        first-end = ae;
-        second-end = be;
-        first-labels = n.first;
-        second-labels = n.second;
-        first = subst (λ (t : Ty). Operand s a ae mark t) n.first-is p.ready.first;
+        first_end = ae;
+        second_end = be;
+        first_labels = n.first;
+        second_labels = n.second;
+        first = subst (λ (t : Ty). Operand s a ae mark t) n.first_is p.ready.first;
         second = subst (λ (t : Ty). Operand s b be mark t) n.second_is p.ready.second;
         room = flat-room;
       }
@@ -195,7 +195,7 @@ module _ {s s' : Bytes} {arm a ae b be mark : ℕ} {r : Unified} where
     where
       go : (t u : Ty) → Operand s a ae mark t → Operand s b be mark u → Nodes t u → Answered (run_nodes (labels_of t) (labels_of u)) s' mark r
       go t u o q n =
-          let i = n.first-is in
+          let i = n.first_is in
           let j = n.second_is in
           rw (i, j)
           (h.answer ae be n.first n.second (subst (λ (x : Ty). Operand s a ae mark x) i o) (subst (λ (x : Ty). Operand s b be mark x) j q))

@@ -18,7 +18,7 @@ use Rattle.unify.specs.declared.Unified.TheVariants.{Mismatch, TooLarge}
 use Rattle.unify.specs.Arms.{has_parts}
 use Rattle.unify.specs.Work.{Answered}
 use Rattle.unify.specs.Frames.{judged, Left, list_pair, map_pair, union_pair, union_skip, list_done, map_done, union_done, stopped, left, PairAt, FrameAt, KeptNameAt, NameKept, NameOver, StoppedAt}
-use Rattle.unify.specs.Steps.{Pair, of-list, of_map, of-union, SomePair, SomeEnd}
+use Rattle.unify.specs.Steps.{Pair, of_list, of_map, of_union, SomePair, SomeEnd}
 use Rattle.unify.proofs.Stays.{Fronts, slice-stays, types-stay, operand-stays, entries-stay}
 
 -- ## Kinds
@@ -40,12 +40,12 @@ pub pair-kind : (s : Bytes) (mark : ℕ) (f : Frame) (u : Unified) → SomePair 
 pair-kind s mark f u p n6 n7 = go p.pair p.answered.stands
   where
     go : {L : Left} {t w : Ty} → Pair L t w → FrameAt s mark f L → f.kind ≡ 10
-    go of-list x = absurd (n6 x.kind)
+    go of_list x = absurd (n6 x.kind)
     go of_map x = absurd (n7 x.kind)
-    go of-union x = x.union.kind
+    go of_union x = x.union.kind
 
 pub done-kind : (s : Bytes) (mark : ℕ) (f : Frame) → SomeEnd s mark f → f.go ≡ 2 → (f.kind ≡ 6 → ⊥) → (f.kind ≡ 7 → ⊥) → f.kind ≡ 10
-done-kind s mark f p g n6 n7 = go p.left-of p.stands
+done-kind s mark f p g n6 n7 = go p.left_of p.stands
   where
     stop : (r : Run) → StoppedAt s mark f r → ⊥
     stop (done t) x = x
@@ -108,10 +108,10 @@ kept-short s mark n name none h = omega arith
 kept-short s mark n name (some fs) h = ⊎_elim (λ (x : NameKept s mark n name fs). omega (arith, x.fits)) (λ (x : NameOver n name fs). omega (arith, x.over)) h
 
 pub pair-there : (s : Bytes) (mark : ℕ) (f : Frame) {L : Left} {t u : Ty} → Pair L t u → FrameAt s mark f L → PairThere s mark f t u
-pair-there s mark f of-list x = record { pair = x.pair; above = omega (arith, x.at); within = omega (arith, x.at) }
+pair-there s mark f of_list x = record { pair = x.pair; above = omega (arith, x.at); within = omega (arith, x.at) }
 pair-there s mark f (of_map {n = n} {k = k}) x =
     record { pair = x.pair; above = omega (arith, x.at); within = omega (arith, x.at, kept-short s mark f.n n k x.kept) }
-pair-there s mark f of-union x = record { pair = x.pair; above = omega (arith, x.at); within = omega (arith, x.at, x.union.members-fit) }
+pair-there s mark f of_union x = record { pair = x.pair; above = omega (arith, x.at); within = omega (arith, x.at, x.union.members_fit) }
 
 -- the pair of a frame that goes on with one
 pub record NextPair (s : Bytes) (mark : ℕ) (f : Frame) (L : Left) : Type 0 where
@@ -121,9 +121,9 @@ pub record NextPair (s : Bytes) (mark : ℕ) (f : Frame) (L : Left) : Type 0 whe
   pub stands : FrameAt s mark f L
 
 pub next-pair : (s : Bytes) (mark : ℕ) (f : Frame) → f.go ≡ 0 → (L : Left) → FrameAt s mark f L → NextPair s mark f L
-next-pair s mark f g (list_pair t u) x = record { first = t; second = u; pair = of-list; stands = x }
+next-pair s mark f g (list_pair t u) x = record { first = t; second = u; pair = of_list; stands = x }
 next-pair s mark f g (map_pair n t u fs gs k) x = record { first = t; second = u; pair = of_map; stands = x }
-next-pair s mark f g (union_pair v o vs os all ms met) x = record { first = v; second = o; pair = of-union; stands = x }
+next-pair s mark f g (union_pair v o vs os all ms met) x = record { first = v; second = o; pair = of_union; stands = x }
 next-pair s mark f g (union_skip o os all ms) x = absurd (omega (arith, x.go))
 next-pair s mark f g (list_done v) x = absurd (omega (arith, x.go))
 next-pair s mark f g (map_done k) x = absurd (omega (arith, x.go))
@@ -173,7 +173,7 @@ module _ (s s' : Bytes) (mark : ℕ) (f : Frame) (same : Fronts f.at s s') (long
       (λ (y : NameOver f.n name fs). ◌⊎◌.inr y) x
 
   pub frame-stays : {L : Left} {t u : Ty} → Pair L t u → FrameAt s mark f L → FrameAt s' mark f L
-  frame-stays of-list x =
+  frame-stays of_list x =
       record {
         kind = x.kind;
         pair = pair-stays (omega (arith, x.at)) x.pair;
@@ -190,30 +190,30 @@ module _ (s s' : Bytes) (mark : ℕ) (f : Frame) (same : Fronts f.at s s') (long
         second = entries-stay f.at s s' same (omega (arith, x.at)) x.second;
         rooms = λ y z a b. omega (arith, x.rooms y z a b);
       }
-  frame-stays (of-union {os = os} {all = all} {ms = ms}) x =
+  frame-stays (of_union {os = os} {all = all} {ms = ms}) x =
       let w = x.union in
       record {
         union = record {
           kind = w.kind;
-          outers-at = types-stay f.at s s' same (omega (arith, x.at, w.outers-below)) w.outers-at;
-          outers-below = w.outers-below;
-          all-at = types-stay f.at s s' same (omega (arith, x.at, w.all-below)) w.all-at;
-          all-below = w.all-below;
-          all-some = w.all-some;
+          outers_at = types-stay f.at s s' same (omega (arith, x.at, w.outers_below)) w.outers_at;
+          outers_below = w.outers_below;
+          all_at = types-stay f.at s s' same (omega (arith, x.at, w.all_below)) w.all_at;
+          all_below = w.all_below;
+          all_some = w.all_some;
           all_fit = w.all_fit;
-          members-at = types-stay f.at s s' same (omega (arith, x.at)) w.members-at;
-          members-fit = w.members-fit;
-          outers-plain = w.outers-plain;
+          members_at = types-stay f.at s s' same (omega (arith, x.at)) w.members_at;
+          members_fit = w.members_fit;
+          outers_plain = w.outers_plain;
           all_plain = w.all_plain;
-          ms-plain = w.ms-plain;
+          ms_plain = w.ms_plain;
           ascend = w.ascend;
           rooms = λ y z a b. omega (arith, w.rooms y z a b);
-          two-slots = omega (arith, w.two-slots);
+          room_for_two = omega (arith, w.room_for_two);
         };
         pair = pair-stays (omega (arith, x.at)) x.pair;
         at = x.at;
         outer = x.outer;
-        variants = types-stay f.at s s' same (omega (arith, x.at, w.all-below)) x.variants;
+        variants = types-stay f.at s s' same (omega (arith, x.at, w.all_below)) x.variants;
         among = x.among;
         met = x.met;
       }

@@ -20,7 +20,7 @@ use Rattle.unify.specs.Work.{Operand, slots, Answered, Below}
 use Rattle.unify.specs.Arms.{arm_of}
 use Rattle.unify.specs.Frames.{judged, Left, list_pair, map_pair, union_pair, union_skip, list_done, map_done, union_done, stopped, left, ListPairAt, ListDoneAt, FrameAt, Comes}
 use Rattle.unify.specs.Made.{SomeMade, Tested, goes, apart_by, pair_by}
-use Rattle.unify.specs.Steps.{ArmReady, Started, AnsweredPair, Pair, of-list, of_map, of-union, SomePair, Stepped, SomeEnd, Finished}
+use Rattle.unify.specs.Steps.{ArmReady, Started, AnsweredPair, Pair, of_list, of_map, of_union, SomePair, Stepped, SomeEnd, Finished}
 use Rattle.unify.specs.declared.Frame.{Frame}
 use Rattle.unify.specs.declared.Unified.{Unified}
 use Rattle.unify.specs.declared.Span.{Span}
@@ -52,16 +52,16 @@ pub record TwoLists (s : Bytes) (a ae b be mark : ℕ) : Type 0 where
   pub room : mark + 1024 * slots (t_list x) (t_list y) ≤ length s
 
 -- two lists stand there
-pub two-lists : {s : Bytes} {arm a ae b be mark : ℕ} → ArmReady s arm a ae b be mark → arm ≡ 6 → TwoLists s a ae b be mark
-two-lists {s} {arm} {a} {ae} {b} {be} {mark} p e =
+pub two_lists : {s : Bytes} {arm a ae b be mark : ℕ} → ArmReady s arm a ae b be mark → arm ≡ 6 → TwoLists s a ae b be mark
+two_lists {s} {arm} {a} {ae} {b} {be} {mark} p e =
     let r = p.ready in
     let l = arm-lists r.left r.right (sym p.is ∙ e) in
     record {
       x = l.first;
       y = l.second;
-      first = subst (λ (t : Ty). Operand s a ae mark t) l.first-is r.first;
+      first = subst (λ (t : Ty). Operand s a ae mark t) l.first_is r.first;
       second = subst (λ (t : Ty). Operand s b be mark t) l.second_is r.second;
-      room = rw (← l.first-is, ← l.second_is) r.room;
+      room = rw (← l.first_is, ← l.second_is) r.room;
     }
 
 pub list-bounds : {s : Bytes} {a ae b be mark : ℕ} → TwoLists s a ae b be mark → (a + 2 ≤ mark) × (b + 2 ≤ mark) × (mark + 1024 ≤ length s)
@@ -93,7 +93,7 @@ module _ {s : Bytes} {a ae b be mark : ℕ} (x y : Ty) (o : Operand s a ae mark 
       let l = list-bounds (record { x = x; y = y; first = o; second = q; room = r }) in
       let below : Below s w mark = below-sets s mark mark (slice a (a + 2) s) (omega arith) in
       record {
-        left-of = list_pair x y;
+        left_of = list_pair x y;
         stands = record {
           kind = k;
           pair = record {
@@ -121,7 +121,7 @@ module _ {s s' : Bytes} {arm a ae b be mark : ℕ} (p : ArmReady s arm a ae b be
       go : (t u : Ty) → Operand s a ae mark t → Operand s b be mark u → arm ≡ arm_of t u → Lists t u → p.ready.left ≡ t → p.ready.right ≡ u
           → Comes (sets s mark (slice a (a + 2) s)) mark (pair_by f (a + 2) ae (b + 2) be (mark + 2)) (judged t u)
       go t u o q h l c d =
-          let i = l.first-is in
+          let i = l.first_is in
           let j = l.second_is in
           let room : mark + 1024 * slots t u ≤ length s = rw (← c, ← d) p.ready.room in
           let arms : 6 ≡ arm_of t u = sym six ∙ h in
@@ -133,9 +133,9 @@ module _ {s s' : Bytes} {arm a ae b be mark : ℕ} (p : ArmReady s arm a ae b be
 
 -- the frame's pair is the two elements
 list_of : {s : Bytes} {mark : ℕ} {f : Frame} {L : Left} {t w : Ty} → Pair L t w → FrameAt s mark f L → f.kind ≡ 6 → ListPairAt s mark f t w × (L ≡ list_pair t w)
-list_of of-list g k = (g, refl)
+list_of of_list g k = (g, refl)
 list_of of_map g k = absurd (omega (arith, g.kind))
-list_of of-union g k = absurd (omega (arith, g.union.kind))
+list_of of_union g k = absurd (omega (arith, g.union.kind))
 
 -- the frame with n bytes at the mark
 abbrev pub sized : Frame → ℕ → Frame
@@ -191,7 +191,7 @@ module _ {s : Bytes} {mark : ℕ} {f : Frame} where
       each t w g (done v) h =
           let (le, at) = list-whole g h in
           let z : mark + (end - mark) ≡ end = omega arith in
-          record { left-of = list_done v; stands = record { kind = k; go = refl; at = rw z at }; comes = refl }
+          record { left_of = list_done v; stands = record { kind = k; go = refl; at = rw z at }; comes = refl }
       each t w g (mismatch x y) h = absurd h
       each t w g large h = absurd h
 
@@ -201,7 +201,7 @@ module _ {s : Bytes} {mark : ℕ} {f : Frame} where
     where
       each : (t w : Ty) → ListPairAt s mark f t w → (j : Run) → Answered j s f.at (Mismatch p q) → Comes s mark (apart_by f p q) (on_done j (λ v. checked (t_list v)))
       each t w g (done v) h = absurd h
-      each t w g (mismatch x y) h = record { left-of = stopped (mismatch x y); stands = (refl, h.0, h.1); comes = refl }
+      each t w g (mismatch x y) h = record { left_of = stopped (mismatch x y); stands = (refl, h.0, h.1); comes = refl }
       each t w g large h = absurd h
 
   pub list-large : (u : Unified) → f.kind ≡ 6 → u ≡ TooLarge → (r : Frame) → r ≡ goes f 4 → Stepped s s mark f u r
@@ -211,7 +211,7 @@ module _ {s : Bytes} {mark : ℕ} {f : Frame} where
       each : (t w : Ty) → ListPairAt s mark f t w → (j : Run) → Answered j s f.at TooLarge → Comes s mark (goes f 4) (on_done j (λ v. checked (t_list v)))
       each t w g (done v) h = absurd h
       each t w g (mismatch x y) h = absurd h
-      each t w g large h = record { left-of = stopped large; stands = refl; comes = refl }
+      each t w g large h = record { left_of = stopped large; stands = refl; comes = refl }
 
 -- ## `finish_list`
 
@@ -234,7 +234,7 @@ module _ {s : Bytes} {mark : ℕ} {f : Frame} (k : f.kind ≡ 6) (two : f.go ≡
   list-ended (stopped large) g = absurd (omega arith)
 
   pub ended-made : SomeEnd s mark f → SomeMade s mark (mark + f.n)
-  ended-made p = let l = list-ended p.left-of p.stands in record { ty = t_list l.element; at = l.stands.at }
+  ended-made p = let l = list-ended p.left_of p.stands in record { ty = t_list l.element; at = l.stands.at }
 
   pub list-finished : (r : Unified) → Tested s mark (mark + f.n) r → Finished s s mark f r
   unfolding left

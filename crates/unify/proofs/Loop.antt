@@ -96,8 +96,8 @@ answered-longer large y z m (Mismatch p q) h x = x
 answered-longer large y z m TooLarge h x = x
 
 -- the same run, of another frame
-comes-on : (s s' : Bytes) (mark : ℕ) (f g : Frame) (R : Run) (p : Comes s mark f R) → Comes s' mark g (left judged p.left-of) → Comes s' mark g R
-comes-on s s' mark f g R p q = record { left-of = q.left-of; stands = q.stands; comes = q.comes ∙ p.comes }
+comes-on : (s s' : Bytes) (mark : ℕ) (f g : Frame) (R : Run) (p : Comes s mark f R) → Comes s' mark g (left judged p.left_of) → Comes s' mark g R
+comes-on s s' mark f g R p q = record { left_of = q.left_of; stands = q.stands; comes = q.comes ∙ p.comes }
 
 module _ (s₀ : Bytes) (a ae b be mark : ℕ) (s : Bytes) (f : Frame) (i : UnifyInv s₀ a ae b be mark s f) where
   -- what it comes to, of the operands that are there
@@ -113,8 +113,8 @@ module _ (s₀ : Bytes) (a ae b be mark : ℕ) (s : Bytes) (f : Frame) (i : Unif
     pair_of : (L : Left) → FrameAt s mark f L → NextPair s mark f L
     pair_of L x = next-pair s mark f go L x
 
-    the-pair : NextPair s mark f some-run.left-of
-    the-pair = pair_of some-run.left-of some-run.stands
+    the-pair : NextPair s mark f some-run.left_of
+    the-pair = pair_of some-run.left_of some-run.stands
 
     there : PairThere s mark f the-pair.first the-pair.second
     there = pair-there s mark f the-pair.pair the-pair.stands
@@ -178,8 +178,8 @@ module _ (s₀ : Bytes) (a ae b be mark : ℕ) (s : Bytes) (f : Frame) (i : Unif
 
         pub some_pair : SomePair s' mark f u
         some_pair =
-            let n = pair_of some-run.left-of some-run.stands in
-            record { left-of = some-run.left-of; first = n.first; second = n.second; pair = n.pair; answered = pair-answered some-run.left-of some-run.stands }
+            let n = pair_of some-run.left_of some-run.stands in
+            record { left_of = some-run.left_of; first = n.first; second = n.second; pair = n.pair; answered = pair-answered some-run.left_of some-run.stands }
 
         pub loop-step : (s'' : Bytes) (g : Frame) → Stepped s' s'' mark f u g → UnifyInv s₀ a ae b be mark s'' g
         loop-step s'' g q =
@@ -188,9 +188,9 @@ module _ (s₀ : Bytes) (a ae b be mark : ℕ) (s : Bytes) (f : Frame) (i : Unif
               below = below-trans mark s₀ s s'' i.below (below-trans mark s s' s'' back_below q.below);
               comes = λ t w x z.
                   let c = i.comes t w x z in
-                  let n = pair_of c.left-of c.stands in
+                  let n = pair_of c.left_of c.stands in
                   comes-on s s'' mark f g (judged t w) c
-                  (q.frame c.left-of n.first n.second n.pair (pair-answered c.left-of c.stands));
+                  (q.frame c.left_of n.first n.second n.pair (pair-answered c.left_of c.stands));
             }
 
   -- ## An outer type that meets no variant
@@ -198,7 +198,7 @@ module _ (s₀ : Bytes) (a ae b be mark : ℕ) (s : Bytes) (f : Frame) (i : Unif
   module _ (go : f.go ≡ 1) where
     pub some-skip : SomeSkip s mark f
     some-skip =
-        let n = next-skip s mark f go some-run.left-of some-run.stands in
+        let n = next-skip s mark f go some-run.left_of some-run.stands in
         record { outer = n.0; outers = n.1; all = n.2; members = n.3; stands = n.4 }
 
     pub loop-skip : (s'' : Bytes) (g : Frame) → Skipped s s'' mark f g → UnifyInv s₀ a ae b be mark s'' g
@@ -208,16 +208,16 @@ module _ (s₀ : Bytes) (a ae b be mark : ℕ) (s : Bytes) (f : Frame) (i : Unif
           below = below-trans mark s₀ s s'' i.below q.below;
           comes = λ t w x z.
               let c = i.comes t w x z in
-              let n = next-skip s mark f go c.left-of c.stands in
+              let n = next-skip s mark f go c.left_of c.stands in
               let r : Comes s'' mark g (left judged (union_skip n.0 n.1 n.2 n.3)) = q.frame n.0 n.1 n.2 n.3 n.4 in
-              record { left-of = r.left-of; stands = r.stands; comes = r.comes ∙ sym (ap (left judged) n.5) ∙ c.comes };
+              record { left_of = r.left_of; stands = r.stands; comes = r.comes ∙ sym (ap (left judged) n.5) ∙ c.comes };
         }
 
   -- ## The end
 
   module _ (over : 2 ≤ f.go) where
     pub some_end : SomeEnd s mark f
-    some_end = record { left-of = some-run.left-of; stands = some-run.stands; over = over; room = loop-room }
+    some_end = record { left_of = some-run.left_of; stands = some-run.stands; over = over; room = loop-room }
 
     pub loop-end : (s₁ s' : Bytes) (u : Unified) → Below s₁ s₀ mark → Finished s s' mark f u → Unifies s₁ s' a ae b be mark u
     loop-end s₁ s' u p q =
@@ -225,5 +225,5 @@ module _ (s₀ : Bytes) (a ae b be mark : ℕ) (s : Bytes) (f : Frame) (i : Unif
           below = below-trans mark s₁ s₀ s' p (below-trans mark s₀ s s' i.below q.below);
           answer = λ t w x z.
               let c = i.comes t w (operand-stays mark s₁ s₀ p.kept (omega arith) (omega arith) x) (operand-stays mark s₁ s₀ p.kept (omega arith) (omega arith) z) in
-              rw c.comes at (q.answer c.left-of c.stands over);
+              rw c.comes at (q.answer c.left_of c.stands over);
         }

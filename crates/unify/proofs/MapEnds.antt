@@ -95,14 +95,14 @@ module _ (s : Bytes) (mark : ℕ) (f : Frame) (seven : f.kind ≡ 7) (two : f.go
   map-end (stopped large) h = absurd (omega arith)
 
   pub end-small : SomeEnd s mark f → f.n ≤ 1022
-  end-small e = go (map-end e.left-of e.stands)
+  end-small e = go (map-end e.left_of e.stands)
     where
       go : {L : Left} → MapEnd L → f.n ≤ 1022
       go (of k h) = kept-within s mark f.n k h
 
   module _ (s' : Bytes) (some_end : SomeEnd s mark f) (text : s' ≡ closed_text s mark f.n) where
     pub end-made : (j : ℕ) → closed_of f.n ≡ Len j → SomeMade s' mark (mark + j)
-    end-made j e = go (map-end some_end.left-of some_end.stands)
+    end-made j e = go (map-end some_end.left_of some_end.stands)
       where
         go : {L : Left} → MapEnd L → SomeMade s' mark (mark + j)
         go (of k h) = let w = closed-line s s' mark f.n some_end.room text j k e h in record { ty = t_map w.fields; at = w.at }

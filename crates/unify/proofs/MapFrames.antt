@@ -11,7 +11,7 @@ use lib.Seq.{slice, sets, length-sets, length-slice}
 use Rattle.semantics.specs.Bytes.{Bytes}
 use Rattle.semantics.specs.Ty.{Ty, t_map, Fields, ∅ᶠ, line_to, fields_to, line, nesting, nesting_f, is_union}
 use Rattle.semantics.specs.Unify.{Meeting}
-use Rattle.semantics.proofs.Meetings.{Met, two-numbers, two-lists, two-maps, two-nodes, two-relationships, two-unions, union_left, union_right, no-rule, met}
+use Rattle.semantics.proofs.Meetings.{Met, two_numbers, two_lists, two_maps, two_nodes, two_relationships, two_unions, union_left, union_right, no_rule, met}
 use Rattle.semantics.proofs.Order.{line_eq}
 use Rattle.semantics.proofs.Regular.{regular-sound}
 use Rattle.text.proofs.Laws.{copied, take_below}
@@ -28,7 +28,7 @@ use Rattle.unify.specs.Arms.{arm_of, pair_arm}
 use Rattle.unify.specs.Made.{goes, apart_by}
 use Rattle.unify.specs.Frames.{judged, Left, map_pair, stopped, left, Value, here, later, entries_of, EntriesAt, KeptAt, KeptNameAt, MapPairAt, Comes}
 use Rattle.unify.specs.Merges.{MergeFor, SomeMerge, Lone, Entered}
-use Rattle.unify.specs.Steps.{ArmReady, Started, measure, Pair, of-list, of_map, of-union, AnsweredPair, SomePair, Stepped}
+use Rattle.unify.specs.Steps.{ArmReady, Started, measure, Pair, of_list, of_map, of_union, AnsweredPair, SomePair, Stepped}
 use Rattle.unify.specs.declared.Unified.{Unified}
 use Rattle.unify.specs.declared.Span.{Span}
 use Rattle.unify.specs.declared.Unified.TheVariants.{Done, Mismatch, TooLarge}
@@ -48,15 +48,15 @@ pub record TwoMaps (a b : Ty) (R : Run) : Type 0 where
 
 two-maps-of : {a b : Ty} {m : Meeting} → Met a b m → pair_arm m ≡ maps_arm → TwoMaps a b (run_pair judged m)
 unfolding pair_arm run_pair
-two-maps-of (two-numbers b c x y) e = absurd (omega arith)
-two-maps-of (two-lists t u) e = absurd (omega arith)
-two-maps-of (two-maps fs gs) e = record { first = fs; second = gs; left_is = refl; right_is = refl; runs = refl }
-two-maps-of (two-nodes ls ks) e = absurd (omega arith)
-two-maps-of (two-relationships m n) e = absurd (omega arith)
-two-maps-of (two-unions ts us) e = absurd (omega arith)
+two-maps-of (two_numbers b c x y) e = absurd (omega arith)
+two-maps-of (two_lists t u) e = absurd (omega arith)
+two-maps-of (two_maps fs gs) e = record { first = fs; second = gs; left_is = refl; right_is = refl; runs = refl }
+two-maps-of (two_nodes ls ks) e = absurd (omega arith)
+two-maps-of (two_relationships m n) e = absurd (omega arith)
+two-maps-of (two_unions ts us) e = absurd (omega arith)
 two-maps-of (union_left ts u x) e = absurd (omega arith)
 two-maps-of (union_right t us x) e = absurd (omega arith)
-two-maps-of (no-rule a b x) e = absurd (omega arith)
+two-maps-of (no_rule a b x) e = absurd (omega arith)
 
 pub arm-maps : (a b : Ty) → arm_of a b ≡ maps_arm → TwoMaps a b (run_arms judged a b)
 arm-maps a b e = let (q, p) = pair-arms judged a b (omega arith) in rw q (two-maps-of (met a b) (sym p ∙ e))
@@ -147,7 +147,7 @@ module _ (s s₀ : Bytes) (arm a ae b be mark : ℕ) (ready : ArmReady s arm a a
           first = w.first;
           second = w.second;
           k = kept ∅ᶠ;
-          first-at = entries-same s s₀ mark (a + 2) w.first start-same (map-entries s a ae mark w.first ft);
+          first_at = entries-same s s₀ mark (a + 2) w.first start-same (map-entries s a ae mark w.first ft);
           second_at = entries-same s s₀ mark (b + 2) w.second start-same (map-entries s b be mark w.second fu);
           kept = start-kept w.first ft;
           comes = sym w.runs ∙ sym (verdict-arms t u (regular-sound t ht.regular) (regular-sound u hu.regular) ht.small hu.small);
@@ -173,9 +173,9 @@ module _ (s : Bytes) (mark : ℕ) (f : Frame) (seven : f.kind ≡ 7) where
     of : (n : Bytes) (t w : Ty) (fs gs : Fields) (k : Option Fields) → MapPairAt s mark f n t w fs gs k → Answered (judged t w) s f.at u → MapPair u (map_pair n t w fs gs k)
 
   pub map-pair : {u : Unified} {L : Left} {t w : Ty} → Pair L t w → AnsweredPair s mark f u L t w → MapPair u L
-  map-pair of-list h = absurd (omega (arith, h.stands.kind))
+  map-pair of_list h = absurd (omega (arith, h.stands.kind))
   map-pair (of_map {n} {t} {u} {fs} {gs} {k}) h = of n t u fs gs k h.stands h.answer
-  map-pair of-union h = absurd (omega (arith, h.stands.union.kind))
+  map-pair of_union h = absurd (omega (arith, h.stands.union.kind))
 
   -- an answer: the value of the name
   module _ (end : ℕ) where
@@ -215,7 +215,7 @@ module _ (s : Bytes) (mark : ℕ) (f : Frame) (seven : f.kind ≡ 7) where
                     first = fs;
                     second = gs;
                     k = keep n v k;
-                    first-at = h.first;
+                    first_at = h.first;
                     second_at = h.second;
                     kept = rw en (kept-value s mark f.n end (end - f.at) k n v h.kept (rw h.at at d) (ap (λ (i : ℕ). end - i) h.at));
                     comes = sym (ap (λ (r : Run). on_done r (λ v. run_maps judged fs gs (keep n v k))) e);
@@ -226,7 +226,7 @@ module _ (s : Bytes) (mark : ℕ) (f : Frame) (seven : f.kind ≡ 7) where
               by large e d = absurd d
 
       pub value-some : SomePair s mark f (Done end) → SomeMerge s (record { p = f.ve; q = f.we; n = n' }) mark
-      value-some h = record { run = left judged h.left-of; merge = value-merge h.pair h.answered }
+      value-some h = record { run = left judged h.left_of; merge = value-merge h.pair h.answered }
 
       pub value-stepped : (s₁ s₂ : Bytes) (m : Merge) (r : Frame) → Lone s s₁ (record { p = f.ve; q = f.we; n = n' }) mark m → Entered s₁ s₂ f m mark r → Stepped s s₂ mark f (Done end) r
       unfolding measure
@@ -258,7 +258,7 @@ module _ (s : Bytes) (mark : ℕ) (f : Frame) (seven : f.kind ≡ 7) where
           by : (r : Run) → judged t w ≡ r → Answered r s f.at (Mismatch x y) → Comes s mark (apart_by f x y) (on_done (judged t w) (λ v. run_maps judged fs gs (keep n v k)))
           by (done v) z d = absurd d
           by (mismatch v w) z (c, d) =
-              record { left-of = stopped (mismatch v w); stands = (refl, c, d); comes = sym (ap (λ (r : Run). on_done r (λ v. run_maps judged fs gs (keep n v k))) z) }
+              record { left_of = stopped (mismatch v w); stands = (refl, c, d); comes = sym (ap (λ (r : Run). on_done r (λ v. run_maps judged fs gs (keep n v k))) z) }
           by large z d = absurd d
 
   pub large-stepped : (u : Unified) (r : Frame) → u ≡ TooLarge → r ≡ goes f 4 → Stepped s s mark f u r
@@ -277,4 +277,4 @@ module _ (s : Bytes) (mark : ℕ) (f : Frame) (seven : f.kind ≡ 7) where
           by : (r : Run) → judged t w ≡ r → Answered r s f.at TooLarge → Comes s mark (goes f 4) (on_done (judged t w) (λ v. run_maps judged fs gs (keep n v k)))
           by (done v) z d = absurd d
           by (mismatch x y) z d = absurd d
-          by large z d = record { left-of = stopped large; stands = refl; comes = sym (ap (λ (r : Run). on_done r (λ v. run_maps judged fs gs (keep n v k))) z) }
+          by large z d = record { left_of = stopped large; stands = refl; comes = sym (ap (λ (r : Run). on_done r (λ v. run_maps judged fs gs (keep n v k))) z) }

@@ -22,7 +22,7 @@ use Rattle.unify_run.proofs.Maps.{maps-left, maps-right, maps-first, maps-second
 use Rattle.unify.specs.Work.{Below}
 use Rattle.unify.specs.Frames.{judged, Value, later, Room, EntriesAt, KeptAt}
 use Rattle.unify.specs.Merges.{SomeEntry, EntryLong, MergeFor, SomeMerge, Common, ended, named, Lone}
-use Rattle.unify.proofs.Entries.{name-two, name-size, head_of, entries-head, FirstAt, first-at, below-refl, below-trans, entries-same}
+use Rattle.unify.proofs.Entries.{name-two, name-size, head_of, entries-head, FirstAt, first_at, below-refl, below-trans, entries-same}
 use Rattle.unify.proofs.KeptMap.{kept-within, kept_entry}
 
 -- ## The length of an entry
@@ -95,7 +95,7 @@ pub record Going (s : Bytes) (m : Merge) (to : ℕ) (R : Run) (x : ℕ) : Type 0
   pub next : x ≡ next_of (head_of merge.first) (head_of merge.second)
 
 pub first_head : {s : Bytes} {m : Merge} {to : ℕ} {R : Run} (g : MergeFor s m to R) → HeadAt s m.p (head_of g.first)
-first_head {s} {m} {to} g = entries-head s m.p to g.first g.first-at
+first_head {s} {m} {to} g = entries-head s m.p to g.first g.first_at
 
 pub second_head : {s : Bytes} {m : Merge} {to : ℕ} {R : Run} (g : MergeFor s m to R) → HeadAt s m.q (head_of g.second)
 second_head {s} {m} {to} g = entries-head s m.q to g.second g.second_at
@@ -118,7 +118,7 @@ module _ {s : Bytes} {m : Merge} {to : ℕ} {R : Run} where
       → run_maps judged fs gs k ≡ R → ((x y : Ty) → Value x fs → Value y gs → Room s to x y) → to + 1024 ≤ length s → Step s m to R x
   unfolding taken_at moved
   stepped (left n t fs gs same) k fa ga ka c rooms room =
-      let F : (j : ℕ) → j ≡ length n + 1 + length (line t) → FirstAt s m.p to n t fs j = λ j e. first-at s m.p to n t fs j e fa in
+      let F : (j : ℕ) → j ≡ length n + 1 + length (line t) → FirstAt s m.p to n t fs j = λ j e. first_at s m.p to n t fs j e fa in
       record {
         name = n;
         ty = t;
@@ -133,7 +133,7 @@ module _ {s : Bytes} {m : Merge} {to : ℕ} {R : Run} where
               first = fs;
               second = gs;
               k = keep n t k;
-              first-at = entries-same s (kept_text s m.p j to m.n) to (m.p + j) fs b (F j e).others;
+              first_at = entries-same s (kept_text s m.p j to m.n) to (m.p + j) fs b (F j e).others;
               second_at = entries-same s (kept_text s m.p j to m.n) to m.q gs b ga;
               kept = kept_entry s m.p j to m.n room k n t ka (F j e).part e;
               comes = sym (same k) ∙ c;
@@ -142,7 +142,7 @@ module _ {s : Bytes} {m : Merge} {to : ℕ} {R : Run} where
             };
       }
   stepped (right n u fs gs same) k fa ga ka c rooms room =
-      let F : (j : ℕ) → j ≡ length n + 1 + length (line u) → FirstAt s m.q to n u gs j = λ j e. first-at s m.q to n u gs j e ga in
+      let F : (j : ℕ) → j ≡ length n + 1 + length (line u) → FirstAt s m.q to n u gs j = λ j e. first_at s m.q to n u gs j e ga in
       record {
         name = n;
         ty = u;
@@ -157,7 +157,7 @@ module _ {s : Bytes} {m : Merge} {to : ℕ} {R : Run} where
               first = fs;
               second = gs;
               k = keep n u k;
-              first-at = entries-same s (kept_text s m.q j to m.n) to m.p fs b fa;
+              first_at = entries-same s (kept_text s m.q j to m.n) to m.p fs b fa;
               second_at = entries-same s (kept_text s m.q j to m.n) to (m.q + j) gs b (F j e).others;
               kept = kept_entry s m.q j to m.n room k n u ka (F j e).part e;
               comes = sym (same k) ∙ c;
@@ -169,7 +169,7 @@ module _ {s : Bytes} {m : Merge} {to : ℕ} {R : Run} where
 pub step : {s : Bytes} {m : Merge} {to : ℕ} {R : Run} {x : ℕ} → Going s m to R x → x < 2 → Step s m to R x
 step {x = x} w h =
     let g = w.merge in
-    stepped (takes x g.first g.second w.next h) g.k g.first-at g.second_at g.kept g.comes g.rooms g.room
+    stepped (takes x g.first g.second w.next h) g.k g.first_at g.second_at g.kept g.comes g.rooms g.room
 
 -- ## The loop
 

@@ -19,7 +19,7 @@ use Rattle.unify.specs.Made.{goes, pair_by}
 use Rattle.unify.specs.Frames.{judged, left, map_pair, map_done, Value, here, later, Room, EntriesAt, KeptAt, KeptNameAt, Comes}
 use Rattle.unify.specs.Merges.{Common, ended, named, MetFor, SomeMet, Entered}
 use Rattle.unify.specs.declared.Frame.{Frame}
-use Rattle.unify.proofs.Entries.{entries-head, FirstAt, first-at, below-refl, entries-same}
+use Rattle.unify.proofs.Entries.{entries-head, FirstAt, first_at, below-refl, entries-same}
 use Rattle.unify.proofs.KeptMap.{kept-within, kept-name}
 use Rattle.unify.proofs.MapLaws.{kept_same, entry_value}
 
@@ -30,7 +30,7 @@ pub data Met (s : Bytes) (m : Merge) (mark : ℕ) (R : Run) : Type 0 where
       → run_maps judged (field n t fs) (field n u gs) k ≡ R → ((x y : Ty) → Value x (field n t fs) → Value y (field n u gs) → Room s mark x y) → Met s m mark R
 
 pub met : {s : Bytes} {m : Merge} {mark : ℕ} {R : Run} → MetFor s m mark R → Met s m mark R
-met {s} {m} {mark} {R} h = let g = h.merge in go h.common g.first-at g.second_at g.comes g.rooms
+met {s} {m} {mark} {R} h = let g = h.merge in go h.common g.first_at g.second_at g.comes g.rooms
   where
     go : {fs gs : Fields} → Common fs gs → EntriesAt s m.p mark fs → EntriesAt s m.q mark gs → run_maps judged fs gs h.merge.k ≡ R
         → ((x y : Ty) → Value x fs → Value y gs → Room s mark x y) → Met s m mark R
@@ -49,7 +49,7 @@ entries_over s f m mark R kind z h = go (met h)
   where
     go : Met s m mark R → Comes s mark (goes (holds f m.n) 2) R
     go (over k a kept c) =
-        record { left-of = map_done k; stands = record { kind = kind; go = refl; kept = kept }; comes = sym (maps-end judged k) ∙ c }
+        record { left_of = map_done k; stands = record { kind = kind; go = refl; kept = kept }; comes = sym (maps-end judged k) ∙ c }
     go (pair n t u fs gs k a b kept c r) = absurd (head-name s m.p n (entries-head s m.p mark (field n t fs) a) z)
 
 -- ## A common name
@@ -85,8 +85,8 @@ module _ (s : Bytes) (m : Merge) (mark : ℕ) (z : get_or s m.p 0 ≡ 33 → ⊥
       go (over k a kept c) = absurd (z (head-end s m.p (entries-head s m.p mark ∅ᶠ a)))
       go (pair n t u fs gs k a b kept c r) =
           let e = nl n (entries-head s m.p mark (field n t fs) a) in
-          let F = first-at s m.p mark n t fs (length n + 1 + length (line t)) refl a in
-          let G = first-at s m.q mark n u gs (length n + 1 + length (line u)) refl b in
+          let F = first_at s m.p mark n t fs (length n + 1 + length (line t)) refl a in
+          let G = first_at s m.q mark n u gs (length n + 1 + length (line u)) refl b in
           let x = F.value.below in
           let y = G.value.below in
           (omega (arith, line-long t), omega (arith, line-long u), h.merge.room, kept-within s mark m.n k kept)
@@ -104,7 +104,7 @@ module _ (s : Bytes) (m : Merge) (mark : ℕ) (z : get_or s m.p 0 ≡ 33 → ⊥
             let e = nl n (entries-head s m.p mark (field n t fs) a) in
             let w : EntriesAt s' m.p mark (field n t fs) = entries-same s s' mark m.p (field n t fs) pair-below a in
             let v : EntriesAt s' m.q mark (field n u gs) = entries-same s s' mark m.q (field n u gs) pair-below b in
-            let F = first-at s m.p mark n t fs (length n + 1 + length (line t)) refl a in
+            let F = first_at s m.p mark n t fs (length n + 1 + length (line t)) refl a in
             let l = pair-below.long in
             record {
               name = n;
@@ -114,9 +114,9 @@ module _ (s : Bytes) (m : Merge) (mark : ℕ) (z : get_or s m.p 0 ≡ 33 → ⊥
               gs = gs;
               k = k;
               size = e;
-              first = first-at s' m.p mark n t fs (j + length (line t)) (omega arith) w;
-              second = first-at s' m.q mark n u gs (j + length (line u)) (omega arith) v;
-              kept = rw (en, es) (kept-name s m.p j mark m.n h.merge.room k n kept (ap (λ (i : ℕ). slice m.p (m.p + i) s) e ∙ F.name-part) e);
+              first = first_at s' m.p mark n t fs (j + length (line t)) (omega arith) w;
+              second = first_at s' m.q mark n u gs (j + length (line u)) (omega arith) v;
+              kept = rw (en, es) (kept-name s m.p j mark m.n h.merge.room k n kept (ap (λ (i : ℕ). slice m.p (m.p + i) s) e ∙ F.name_part) e);
               comes = c;
               rooms = λ x y p q. let o = r x y p q in omega arith;
             }
@@ -148,7 +148,7 @@ module _ (s : Bytes) (f : Frame) (m : Merge) (mark j n : ℕ) (v ve w we : ℕ) 
       let a : v ≡ m.p + (length h.name + 1) = ev ∙ ap (λ (i : ℕ). m.p + i) h.size in
       let b : w ≡ m.q + (length h.name + 1) = ew ∙ ap (λ (i : ℕ). m.q + i) h.size in
       record {
-        left-of = map_pair h.name h.t h.u h.fs h.gs h.k;
+        left_of = map_pair h.name h.t h.u h.fs h.gs h.k;
         stands = record {
           kind = kind;
           pair = record { go = refl; first = rw (a, e) h.first.value; second = rw (b, g) h.second.value; room = h.rooms h.t h.u here here };

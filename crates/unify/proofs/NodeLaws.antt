@@ -41,9 +41,9 @@ label-mark {s} {a} {e} (some ls) f =
     let l = type-long f in
     sym (get_or-slice a e s 2 0 (omega arith)) ∙ ap (λ (x : Bytes). get_or x 2 0) f.is
 
-no-labels : {s : Bytes} {a e : ℕ} (ls : Option (List Bytes)) → TypeAt s a e (t_node ls) → get_or s (a + 2) 0 ≡ 33 → ls ≡ none
-no-labels none f h = refl
-no-labels (some ls) f h = absurd (omega (arith, label-mark (some ls) f))
+no_labels : {s : Bytes} {a e : ℕ} (ls : Option (List Bytes)) → TypeAt s a e (t_node ls) → get_or s (a + 2) 0 ≡ 33 → ls ≡ none
+no_labels none f h = refl
+no_labels (some ls) f h = absurd (omega (arith, label-mark (some ls) f))
 
 record Labels (ls : Option (List Bytes)) : Type 0 where
   labels : List Bytes
@@ -63,14 +63,14 @@ module _ {s s' : Bytes} {a b mark : ℕ} {r : Unified} (p : SomeNodes s a b mark
 
   pub first_any : get_or s (a + 2) 0 ≡ 33 → NodesAnswer s s' a b mark r
   unfolding run_nodes
-  first_any h = record { below = written_below w; answer = λ ae be ls ks o q. go ls ks (no-labels ls o.at h) }
+  first_any h = record { below = written_below w; answer = λ ae be ls ks o q. go ls ks (no_labels ls o.at h) }
     where
       go : (ls ks : Option (List Bytes)) → ls ≡ none → Answered (run_nodes ls ks) s' mark r
       go ls ks e = rw e any-node
 
   pub second-any : get_or s (b + 2) 0 ≡ 33 → NodesAnswer s s' a b mark r
   unfolding run_nodes
-  second-any h = record { below = written_below w; answer = λ ae be ls ks o q. go ls ks (no-labels ks q.at h) }
+  second-any h = record { below = written_below w; answer = λ ae be ls ks o q. go ls ks (no_labels ks q.at h) }
     where
       go : (ls ks : Option (List Bytes)) → ks ≡ none → Answered (run_nodes ls ks) s' mark r
       go none ks e = any-node
@@ -85,22 +85,22 @@ labels_at {s} {a} {e} {mark} ls o h =
     record { at = q.at; below = q.below; ascends = q.regular }
 
 module _ {s : Bytes} {a b mark : ℕ} (p : SomeNodes s a b mark) (f : get_or s (a + 2) 0 ≡ 33 → ⊥) (g : get_or s (b + 2) 0 ≡ 33 → ⊥) where
-  first-set : Labels p.first-labels
-  first-set = some-labels p.first-labels p.first.at f
+  first-set : Labels p.first_labels
+  first-set = some-labels p.first_labels p.first.at f
 
-  second-set : Labels p.second-labels
-  second-set = some-labels p.second-labels p.second.at g
+  second-set : Labels p.second_labels
+  second-set = some-labels p.second_labels p.second.at g
 
   pub merge-ready : SomeLabels s a mark × SomeLabels s b mark × (mark + 1024 ≤ length s)
   merge-ready = (
-    record { end = p.first-end; labels = first-set.labels; at = labels_at p.first-labels p.first first-set },
-    record { end = p.second-end; labels = second-set.labels; at = labels_at p.second-labels p.second second-set },
+    record { end = p.first_end; labels = first-set.labels; at = labels_at p.first_labels p.first first-set },
+    record { end = p.second_end; labels = second-set.labels; at = labels_at p.second_labels p.second second-set },
     p.room,
   )
 
   module _ {s' : Bytes} {r : Grown} (m : MergedLabels s s' a b mark r) where
     merged : Made s s' mark (t_node (some (insert_names second-set.labels (insert_names first-set.labels [])))) r
-    merged = m p.first-end p.second-end first-set.labels second-set.labels (labels_at p.first-labels p.first first-set) (labels_at p.second-labels p.second second-set)
+    merged = m p.first_end p.second_end first-set.labels second-set.labels (labels_at p.first_labels p.first first-set) (labels_at p.second_labels p.second second-set)
 
     merged-below : Below s s' mark
     merged-below = record { kept = merged.below; long = merged.long }

@@ -16,7 +16,7 @@ use Rattle.ty.specs.Read.{kind_of}
 use Rattle.ty.specs.declared.Grown.{Grown}
 use Rattle.ty.specs.declared.Grown.TheVariants.{Len, TooLarge}
 use Rattle.ty.proofs.KindLaws.{kind_at}
-use Rattle.ty.proofs.Members.{types_long, no-types, as-types, first-at}
+use Rattle.ty.proofs.Members.{types_long, no-types, as-types, first_at}
 use Rattle.unify_run.specs.Run.{Run, large, given, widen, run_variants, run_members}
 use Rattle.unify.specs.Work.{Below}
 use Rattle.unify.specs.Frames.{judged, union_pair, union_skip, union_done, stopped, left, Plain, UnionAt, UnionPairAt, UnionSkipAt, UnionDoneAt, Comes}
@@ -26,7 +26,7 @@ use Rattle.unify.specs.Variants.{RunningAt, FewAt, Grows, Widening, Widened, Som
 use Rattle.unify.specs.declared.Frame.{Frame}
 use Rattle.unify.proofs.Marks.{below-same, below-types}
 use Rattle.unify.proofs.UnionRun.{Members, MembersIf, widen-members, all_of, null-kind, other-kind, comes-done, comes-skip, comes-pair}
-use Rattle.unify.proofs.UnionJoins.{first-type, first-is, rest-is, first-less, first-operand, small-long, grows-len, grows-over}
+use Rattle.unify.proofs.UnionJoins.{first-type, first_is, rest-is, first-less, first-operand, small-long, grows-len, grows-over}
 
 -- ## A frame of a union that goes on
 
@@ -38,10 +38,10 @@ pub record Alike (f g : Frame) : Type 0 where
   pub ie : g.ie ≡ f.ie
 
 pub union-members-of : {s : Bytes} {mark : ℕ} {f : Frame} {os all ms : List Ty} → UnionAt s mark f os all ms → Members ms
-union-members-of u = record { plain = u.ms-plain; ascend = u.ascend }
+union-members-of u = record { plain = u.ms_plain; ascend = u.ascend }
 
 pub running-of : {s : Bytes} {mark : ℕ} {f : Frame} {os all ms : List Ty} → UnionAt s mark f os all ms → RunningAt s mark f.n ms
-running-of u = record { at = u.members-at; fit = u.members-fit }
+running-of u = record { at = u.members_at; fit = u.members_fit }
 
 -- with other members, and fewer outer types
 pub union-on : {s s' : Bytes} {mark : ℕ} {f g : Frame} {os ps all ms ls : List Ty} → UnionAt s mark f os all ms → Below s s' mark → Alike f g → TypesAt s g.p f.pe ps
@@ -49,26 +49,26 @@ pub union-on : {s s' : Bytes} {mark : ℕ} {f g : Frame} {os ps all ms ls : List
 union-on {s} {s'} {mark} {f} {g} {os} {ps} {all} {ms} {ls} u b a t among plain r m =
     record {
       kind = a.kind ∙ u.kind;
-      outers-at = subst (λ (k : ℕ). TypesAt s' g.p k ps) (sym a.pe) (below-types b u.outers-below t);
-      outers-below = omega (arith, a.pe, u.outers-below);
-      all-at = subst (λ (k : ℕ). TypesAt s' k g.ie all) (sym a.i) (subst (λ (k : ℕ). TypesAt s' f.i k all) (sym a.ie) (below-types b u.all-below u.all-at));
-      all-below = omega (arith, a.ie, u.all-below);
-      all-some = omega (arith, a.i, a.ie, u.all-some);
+      outers_at = subst (λ (k : ℕ). TypesAt s' g.p k ps) (sym a.pe) (below-types b u.outers_below t);
+      outers_below = omega (arith, a.pe, u.outers_below);
+      all_at = subst (λ (k : ℕ). TypesAt s' k g.ie all) (sym a.i) (subst (λ (k : ℕ). TypesAt s' f.i k all) (sym a.ie) (below-types b u.all_below u.all_at));
+      all_below = omega (arith, a.ie, u.all_below);
+      all_some = omega (arith, a.i, a.ie, u.all_some);
       all_fit = omega (arith, a.i, a.ie, u.all_fit);
-      members-at = r.at;
-      members-fit = r.fit;
-      outers-plain = plain;
+      members_at = r.at;
+      members_fit = r.fit;
+      outers_plain = plain;
       all_plain = u.all_plain;
-      ms-plain = m.plain;
+      ms_plain = m.plain;
       ascend = m.ascend;
       rooms = λ x y h k. omega (arith, u.rooms x y h (among y k), b.long);
-      two-slots = omega (arith, u.two-slots, b.long);
+      room_for_two = omega (arith, u.room_for_two, b.long);
     }
 
 -- the same outer types
 union-same : {s : Bytes} {mark : ℕ} {f : Frame} {os all ms : List Ty} (g : Frame) → UnionAt s mark f os all ms → Alike f g → f.p ≡ g.p → f.n ≡ g.n → UnionAt s mark g os all ms
 union-same {s} {mark} {f} {os} {all} {ms} g u a p n =
-    union-on u (below-same s mark) a (subst (λ (k : ℕ). TypesAt s k f.pe os) p u.outers-at) (λ y m. m) u.outers-plain
+    union-on u (below-same s mark) a (subst (λ (k : ℕ). TypesAt s k f.pe os) p u.outers_at) (λ y m. m) u.outers_plain
     (subst (λ (k : ℕ). RunningAt s mark k ms) n (running-of u)) (union-members-of u)
 
 all_tail : {P : Ty → Type 0} {x : Ty} {xs : List Ty} → All P (x ∷ xs) → All P xs
@@ -85,19 +85,19 @@ passed f p n =
 union-passed : {s s' : Bytes} {mark : ℕ} {f : Frame} {o : Ty} {os all ms ls : List Ty} {oe n : ℕ} → UnionAt s mark f (o ∷ os) all ms → Below s s' mark → EndsAt s f.p oe
     → RunningAt s' mark n ls → Members ls → UnionAt s' mark (passed f oe n) os all ls
 union-passed {f = f} {oe = oe} {n = n} u b e r m =
-    union-on {g = passed f oe n} u b (record { kind = refl; pe = refl; i = refl; ie = refl }) (rest-is u.outers-at e) (λ y k. Memᴰ.tail k) (all_tail u.outers-plain) r m
+    union-on {g = passed f oe n} u b (record { kind = refl; pe = refl; i = refl; ie = refl }) (rest-is u.outers_at e) (λ y k. Memᴰ.tail k) (all_tail u.outers_plain) r m
 
 measure-union : (mark : ℕ) (f : Frame) → f.kind ≡ 10 → measure mark f ≡ (f.pe - f.p) * 2048 + (f.ie - f.ve)
 unfolding measure
 measure-union mark f h = ap (λ (k : ℕ). cond (eqb k 10) ((f.pe - f.p) * 2048 + (f.ie - f.ve)) (mark - f.ve)) h
 
 pub comes-as : {s : Bytes} {mark : ℕ} {f : Frame} {R Q : Run} → Comes s mark f R → R ≡ Q → Comes s mark f Q
-comes-as c e = record { left-of = c.left-of; stands = c.stands; comes = c.comes ∙ e }
+comes-as c e = record { left_of = c.left_of; stands = c.stands; comes = c.comes ∙ e }
 
 -- too large
 pub comes-over : {s : Bytes} {mark : ℕ} {r : Frame} → r.go ≡ 4 → Comes s mark r large
 unfolding left
-comes-over e = record { left-of = stopped large; stands = e; comes = refl }
+comes-over e = record { left_of = stopped large; stands = e; comes = refl }
 
 -- ## `next_outer`
 
@@ -109,22 +109,22 @@ unmet f =
 module _ {s : Bytes} {mark : ℕ} {f : Frame} where
   outer_goes : {os all ms : List Ty} → UnionAt s mark f os all ms → f.p < f.pe → TypeFrom s f.p
   unfolding lines_of
-  outer_goes {os = []} u h = absurd (omega (arith, types_long u.outers-at))
-  outer_goes {os = o ∷ os} u h = first-type u.outers-at
+  outer_goes {os = []} u h = absurd (omega (arith, types_long u.outers_at))
+  outer_goes {os = o ∷ os} u h = first-type u.outers_at
 
   pub outer-type : SomeOuters s mark f → f.p < f.pe → TypeFrom s f.p
   outer-type p h = outer_goes p.union h
 
   variant-goes : {os all ms : List Ty} → UnionAt s mark f os all ms → TypeFrom s f.i
   unfolding lines_of
-  variant-goes {all = []} u = absurd (omega (arith, types_long u.all-at, u.all-some))
-  variant-goes {all = v ∷ vs} u = first-type u.all-at
+  variant-goes {all = []} u = absurd (omega (arith, types_long u.all_at, u.all_some))
+  variant-goes {all = v ∷ vs} u = first-type u.all_at
 
   pub variant-type : SomeOuters s mark f → TypeFrom s f.i
   variant-type p = variant-goes p.union
 
   outer-kind : {o : Ty} {os all ms : List Ty} → UnionAt s mark f (o ∷ os) all ms → get_or s f.p 0 ≡ kind_of o
-  outer-kind {o} u = kind_at s f.p (f.p + length (line o)) o (first-at u.outers-at)
+  outer-kind {o} u = kind_at s f.p (f.p + length (line o)) o (first_at u.outers_at)
 
 module _ {s : Bytes} {mark : ℕ} {f r : Frame} where
   pub outer-none : f.pe ≤ f.p → r ≡ goes f 2 → NextOuter s mark f r
@@ -132,9 +132,9 @@ module _ {s : Bytes} {mark : ℕ} {f r : Frame} where
       record {
         frame = λ os all ms u.
             record {
-              left-of = union_done ms;
-              stands = subst (λ (x : Frame). UnionDoneAt s mark x ms) (sym e) (record { kind = u.kind; go = refl; members-at = u.members-at; members-fit = u.members-fit; room = u.two-slots });
-              comes = comes-done all ms ∙ ap (λ (l : List Ty). run_members judged all l ms) (sym (no-types os (omega (arith, types_long u.outers-at))));
+              left_of = union_done ms;
+              stands = subst (λ (x : Frame). UnionDoneAt s mark x ms) (sym e) (record { kind = u.kind; go = refl; members_at = u.members_at; members_fit = u.members_fit; room = u.room_for_two });
+              comes = comes-done all ms ∙ ap (λ (l : List Ty). run_members judged all l ms) (sym (no-types os (omega (arith, types_long u.outers_at))));
             };
         falls = λ l. absurd (omega (arith, ap (λ (x : Frame). x.go) e));
       }
@@ -148,10 +148,10 @@ module _ {s : Bytes} {mark : ℕ} {f r : Frame} where
       }
     where
       go : {all ms : List Ty} (os : List Ty) → UnionAt s mark f os all ms → Comes s mark r (run_members judged all os ms)
-      go [] u = absurd (omega (arith, types_long u.outers-at))
+      go [] u = absurd (omega (arith, types_long u.outers_at))
       go {all} {ms} (o ∷ os) u =
           record {
-            left-of = union_skip o os all ms;
+            left_of = union_skip o os all ms;
             stands =
                 subst (λ (x : Frame). UnionSkipAt s mark x o os all ms) (sym e)
                 (record { go = refl; union = union-same (goes (unmet f) 1) u (record { kind = refl; pe = refl; i = refl; ie = refl }) refl refl; met = refl });
@@ -168,11 +168,11 @@ module _ {s : Bytes} {mark : ℕ} {f r : Frame} where
       }
     where
       go : {ms : List Ty} (os all : List Ty) → UnionAt s mark f os all ms → Comes s mark r (run_members judged all os ms)
-      go [] all u = absurd (omega (arith, types_long u.outers-at))
-      go (o ∷ os) [] u = absurd (omega (arith, types_long u.all-at, u.all-some))
+      go [] all u = absurd (omega (arith, types_long u.outers_at))
+      go (o ∷ os) [] u = absurd (omega (arith, types_long u.all_at, u.all_some))
       go {ms} (o ∷ os) (v ∷ vs) u =
           record {
-            left-of = union_pair v o vs os (v ∷ vs) ms false;
+            left_of = union_pair v o vs os (v ∷ vs) ms false;
             stands =
                 subst (λ (g : Frame). UnionPairAt s mark g v o vs os (v ∷ vs) ms false) (sym e)
                 (record {
@@ -180,13 +180,13 @@ module _ {s : Bytes} {mark : ℕ} {f r : Frame} where
                   pair =
                       record {
                         go = refl;
-                        first = first-operand u.all-at y u.all-below (all_head u.all_plain);
-                        second = first-operand u.outers-at x u.outers-below (all_head u.outers-plain);
+                        first = first-operand u.all_at y u.all_below (all_head u.all_plain);
+                        second = first-operand u.outers_at x u.outers_below (all_head u.outers_plain);
                         room = u.rooms v o (Memᴰ.head refl) (Memᴰ.head refl);
                       };
                   at = refl;
                   outer = refl;
-                  variants = rest-is u.all-at y;
+                  variants = rest-is u.all_at y;
                   among = λ z m. m;
                   met = refl;
                 });
@@ -194,16 +194,16 @@ module _ {s : Bytes} {mark : ℕ} {f r : Frame} where
           }
 
       low : {os ms : List Ty} (all : List Ty) → UnionAt s mark f os all ms → measure mark r ≤ (f.pe - f.p) * 2048 + (f.ie - f.ve) + 1024
-      low [] u = absurd (omega (arith, types_long u.all-at, u.all-some))
+      low [] u = absurd (omega (arith, types_long u.all_at, u.all_some))
       low (v ∷ vs) u =
-          let k = first-less u.all-at y in
+          let k = first-less u.all_at y in
           omega (arith, measure-union mark r (ap (λ (z : Frame). z.kind) e ∙ u.kind), ap (λ (z : Frame). z.pe) e, ap (λ (z : Frame). z.p) e, ap (λ (z : Frame). z.ie) e, ap (λ (z : Frame). z.ve) e, u.all_fit)
 
 -- ## `close_outer`
 
 module _ {s : Bytes} {mark : ℕ} {f : Frame} (q : SomeOuter s mark f) where
   pub close-type : TypeFrom s f.p
-  close-type = first-type q.union.outers-at
+  close-type = first-type q.union.outers_at
 
   module _ {oe : ℕ} (e : EndsAt s f.p oe) where
     pub close-next : SomeOuters s mark (passed f oe f.n)
@@ -212,18 +212,18 @@ module _ {s : Bytes} {mark : ℕ} {f : Frame} (q : SomeOuter s mark f) where
     few-outer : {o : Ty} {os all ms : List Ty} → UnionAt s mark f (o ∷ os) all ms → FewAt s f.p oe mark (o ∷ [])
     few-outer {o} u =
         record {
-          at = as-types (first-is u.outers-at e);
-          below = omega (arith, first-less u.outers-at e, u.outers-below);
-          few = small-long (first-is u.outers-at e) (all_head u.outers-plain).small;
+          at = as-types (first_is u.outers_at e);
+          below = omega (arith, first-less u.outers_at e, u.outers_below);
+          few = small-long (first_is u.outers_at e) (all_head u.outers_plain).small;
         }
 
     few-all : {o : Ty} {os all ms : List Ty} → UnionAt s mark f (o ∷ os) all ms → FewAt s f.i f.ie mark all
-    few-all u = record { at = u.all-at; below = u.all-below; few = u.all_fit }
+    few-all u = record { at = u.all_at; below = u.all_below; few = u.all_fit }
 
     pub close-widening : Widening s f.p oe f.i f.ie mark f.n
     close-widening =
         record {
-          variants = record { members = q.members; types = q.all; running = running-of q.union; new = few-all q.union; room = q.union.two-slots };
+          variants = record { members = q.members; types = q.all; running = running-of q.union; new = few-all q.union; room = q.union.room_for_two };
           outer = q.outer;
           new = few-outer q.union;
         }
@@ -231,7 +231,7 @@ module _ {s : Bytes} {mark : ℕ} {f : Frame} (q : SomeOuter s mark f) where
     close-falls : {r : Frame} (g : Frame) → NextOuter s mark g r → g.p ≡ oe → g.pe ≡ f.pe → g.ie ≡ f.ie → g.ve ≡ f.ve → r.go < 2 → measure mark r < measure mark f
     close-falls {r} g h a b c d l =
         let k = h.falls l in
-        omega (arith, measure-union mark f q.union.kind, first-less q.union.outers-at e)
+        omega (arith, measure-union mark f q.union.kind, first-less q.union.outers_at e)
 
     -- a variant took it
     pub close-met : {r : Frame} → f.met ≡ true → NextOuter s mark (passed f oe f.n) r → ClosedOuter s s mark f r
@@ -250,7 +250,7 @@ module _ {s : Bytes} {mark : ℕ} {f : Frame} (q : SomeOuter s mark f) where
       widened-of {o} {os} {all} {ms} u = w.grows ms all o (running-of u) (few-all u) (few-outer u)
 
       keeps-of : {o : Ty} {os all ms : List Ty} → UnionAt s mark f (o ∷ os) all ms → MembersIf (widen all o ms)
-      keeps-of {o} u = widen-members o u.all_plain (all_head u.outers-plain) (union-members-of u)
+      keeps-of {o} u = widen-members o u.all_plain (all_head u.outers_plain) (union-members-of u)
 
       module _ (k : ℕ) (y : g ≡ Len k) where
         union-widened : {o : Ty} {os all ms : List Ty} → UnionAt s mark f (o ∷ os) all ms → (l : List Ty) × (widen all o ms ≡ some l) × UnionAt s' mark (passed f oe k) os all l
@@ -268,7 +268,7 @@ module _ {s : Bytes} {mark : ℕ} {f : Frame} (q : SomeOuter s mark f) where
             record {
               below = w.below;
               frame = λ o os all ms u. go u (union-widened u);
-              falls = λ l. let z = h.falls l in omega (arith, measure-union mark f q.union.kind, first-less q.union.outers-at e);
+              falls = λ l. let z = h.falls l in omega (arith, measure-union mark f q.union.kind, first-less q.union.outers_at e);
             }
           where
             go : {o : Ty} {os all ms : List Ty} → UnionAt s mark f (o ∷ os) all ms → (l : List Ty) × (widen all o ms ≡ some l) × UnionAt s' mark (passed f oe k) os all l
@@ -342,7 +342,7 @@ module _ {s : Bytes} {mark : ℕ} {f : Frame} where
       go [] k = absurd (omega (arith, types_long k.variants))
       go {o} {os} {all} {ms} (v ∷ vs) k =
           record {
-            left-of = union_pair v o vs os all ms f.met;
+            left_of = union_pair v o vs os all ms f.met;
             stands =
                 subst (λ (g : Frame). UnionPairAt s mark g v o vs os all ms f.met) (sym e)
                 (record {
@@ -350,7 +350,7 @@ module _ {s : Bytes} {mark : ℕ} {f : Frame} where
                   pair =
                       record {
                         go = refl;
-                        first = first-operand k.variants x k.union.all-below (all_of k.union.all_plain (k.among v (Memᴰ.head refl)));
+                        first = first-operand k.variants x k.union.all_below (all_of k.union.all_plain (k.among v (Memᴰ.head refl)));
                         second = k.second;
                         room = k.union.rooms v o (k.among v (Memᴰ.head refl)) (Memᴰ.head refl);
                       };

@@ -14,7 +14,7 @@ use Rattle.ty.specs.Union.{TypesAt, Adding, AddedAll}
 use Rattle.ty.specs.declared.Grown.{Grown}
 use Rattle.ty.specs.declared.Grown.TheVariants.{Len, TooLarge}
 use Rattle.ty.proofs.KindLaws.{two_at}
-use Rattle.ty.proofs.Members.{first-from, first-at, others-at}
+use Rattle.ty.proofs.Members.{first-from, first_at, others-at}
 use Rattle.ty.proofs.UnionEnds.{type-long}
 use Rattle.unify_run.specs.Run.{given, add, widen}
 use Rattle.unify_run.proofs.Size.{small-sound}
@@ -31,20 +31,20 @@ module _ {s : Bytes} {a e : ℕ} {t : Ty} {ts : List Ty} (g : TypesAt s a e (t �
   first-type = record { ty = t; rest = lines_of ts ++ drop e s; is = first-from g }
 
   module _ {m : ℕ} (h : EndsAt s a m) where
-    first-end : a + length (line t) ≡ m
-    first-end = sym (h t (lines_of ts ++ drop e s) (first-from g))
+    first_end : a + length (line t) ≡ m
+    first_end = sym (h t (lines_of ts ++ drop e s) (first-from g))
 
-    pub first-is : TypeAt s a m t
-    first-is = subst (λ (k : ℕ). TypeAt s a k t) first-end (first-at g)
+    pub first_is : TypeAt s a m t
+    first_is = subst (λ (k : ℕ). TypeAt s a k t) first_end (first_at g)
 
     pub rest-is : TypesAt s m e ts
-    rest-is = subst (λ (k : ℕ). TypesAt s k e ts) first-end (others-at g)
+    rest-is = subst (λ (k : ℕ). TypesAt s k e ts) first_end (others-at g)
 
     pub first-less : (a + 2 ≤ m) × (m ≤ e)
-    first-less = (two_at s a m t first-is, rest-is.ordered)
+    first-less = (two_at s a m t first_is, rest-is.ordered)
 
     pub first-operand : {mark : ℕ} → e ≤ mark → Plain t → Operand s a m mark t
-    first-operand b p = record { at = first-is; below = omega (arith, first-less); regular = p.regular; small = p.small }
+    first-operand b p = record { at = first_is; below = omega (arith, first-less); regular = p.regular; small = p.small }
 
 -- a type that is not too large is short
 pub small-long : {s : Bytes} {a e : ℕ} {t : Ty} → TypeAt s a e t → too_large t ≡ false → e ≤ a + 1024

@@ -11,7 +11,7 @@ use Rattle.semantics.specs.Bytes.{Bytes}
 use Rattle.semantics.specs.Ty.{t_null, Ty, base, t_list, t_map, t_node, t_relationship, t_union, Tys, members, letter, among, matches, line, nesting, insert, inserts, opened, joined, ascending, is_union}
 use Rattle.semantics.specs.Unify.{Meeting, meeting}
 use Rattle.semantics.proofs.All.{All, empty, also, all-weaken}
-use Rattle.semantics.proofs.Meetings.{Met, two-numbers, two-lists, two-maps, two-nodes, two-relationships, two-unions, union_left, union_right, no-rule, met}
+use Rattle.semantics.proofs.Meetings.{Met, two_numbers, two_lists, two_maps, two_nodes, two_relationships, two_unions, union_left, union_right, no_rule, met}
 use Rattle.semantics.proofs.Order.{TriTy, lt, eq, gt, tri_ty, insert-lt, insert-eq, insert-gt}
 use Rattle.semantics.proofs.Regular.{Member, ascends-true, ascends-sound, regular-true, regular-sound, inserts-sorted}
 use Rattle.ty.specs.Read.{kind_of}
@@ -93,17 +93,17 @@ both-plain (also {x} m a) (also p b) = also (record { regular = regular-true x m
 pub union-plain : (ts : Tys) → Fine (t_union ts) → All Plain (members ts)
 union-plain ts f = both-plain (union-members ts f.0) (part-members ts f.0 (small-sound (t_union ts) f.1))
 
-fine-plain : (t : Ty) → Fine t → is_union t ≡ false → Plain t
-fine-plain t f u = record { regular = regular-true t f.0; small = f.1; single = u }
+fine_plain : (t : Ty) → Fine t → is_union t ≡ false → Plain t
+fine_plain t f u = record { regular = regular-true t f.0; small = f.1; single = u }
 
 -- what a type adds to a union
 pub opened-plain : (t : Ty) → Fine t → All Plain (opened t)
 unfolding opened is_union
-opened-plain (base b) f = also (fine-plain (base b) f refl) empty
-opened-plain (t_list t) f = also (fine-plain (t_list t) f refl) empty
-opened-plain (t_map fs) f = also (fine-plain (t_map fs) f refl) empty
-opened-plain (t_node ls) f = also (fine-plain (t_node ls) f refl) empty
-opened-plain (t_relationship n) f = also (fine-plain (t_relationship n) f refl) empty
+opened-plain (base b) f = also (fine_plain (base b) f refl) empty
+opened-plain (t_list t) f = also (fine_plain (t_list t) f refl) empty
+opened-plain (t_map fs) f = also (fine_plain (t_map fs) f refl) empty
+opened-plain (t_node ls) f = also (fine_plain (t_node ls) f refl) empty
+opened-plain (t_relationship n) f = also (fine_plain (t_relationship n) f refl) empty
 opened-plain (t_union ts) f = union-plain ts f
 
 pub all_of : {P : Ty → Type 0} {xs : List Ty} {x : Ty} → All P xs → Memᴰ x xs → P x
@@ -166,15 +166,15 @@ pub data UnionArm (t u : Ty) (m : Meeting) (arm : ℕ) : Type 0 where
 
 pair-arm : {t u : Ty} {m : Meeting} → Met t u m → (arm : ℕ) → arm ≡ pair_arm m → unions_arm ≤ arm → arm ≤ union_right_arm → UnionArm t u m arm
 unfolding pair_arm run_pair
-pair-arm (two-numbers b c x y) arm e l h = absurd (omega arith)
-pair-arm (two-lists t u) arm e l h = absurd (omega arith)
-pair-arm (two-maps fs gs) arm e l h = absurd (omega arith)
-pair-arm (two-nodes ls ks) arm e l h = absurd (omega arith)
-pair-arm (two-relationships m n) arm e l h = absurd (omega arith)
-pair-arm (two-unions ts us) arm e l h = both ts us refl refl e refl
+pair-arm (two_numbers b c x y) arm e l h = absurd (omega arith)
+pair-arm (two_lists t u) arm e l h = absurd (omega arith)
+pair-arm (two_maps fs gs) arm e l h = absurd (omega arith)
+pair-arm (two_nodes ls ks) arm e l h = absurd (omega arith)
+pair-arm (two_relationships m n) arm e l h = absurd (omega arith)
+pair-arm (two_unions ts us) arm e l h = both ts us refl refl e refl
 pair-arm (union_left ts u x) arm e l h = first ts refl x e refl
 pair-arm (union_right t us x) arm e l h = second us x refl e refl
-pair-arm (no-rule a b x) arm e l h = absurd (omega arith)
+pair-arm (no_rule a b x) arm e l h = absurd (omega arith)
 
 -- the arms before the pairs make none
 pub union-arm : (t u : Ty) (arm : ℕ) → arm ≡ arm_of t u → unions_arm ≤ arm → arm ≤ union_right_arm → (run_arms judged t u ≡ run_pair judged (meeting t u)) × UnionArm t u (meeting t u) arm

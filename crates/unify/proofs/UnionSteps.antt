@@ -28,7 +28,7 @@ use Rattle.unify.specs.Work.{Operand, slots, Answered, Below}
 use Rattle.unify.specs.Arms.{arm_of}
 use Rattle.unify.specs.Frames.{judged, Left, list_pair, map_pair, union_pair, union_skip, list_done, map_done, union_done, stopped, left, Room, PairAt, Plain, UnionAt, UnionPairAt, UnionDoneAt, FrameAt, Comes}
 use Rattle.unify.specs.Made.{empty_frame, SomeUnion, ClosedUnion}
-use Rattle.unify.specs.Steps.{ArmReady, measure, Started, AnsweredPair, Pair, of-list, of_map, of-union, SomePair, Stepped, SomeEnd, Finished}
+use Rattle.unify.specs.Steps.{ArmReady, measure, Started, AnsweredPair, Pair, of_list, of_map, of_union, SomePair, Stepped, SomeEnd, Finished}
 use Rattle.unify.specs.Variants.{Sides, RunningAt, Grows, SomeOuters, NextOuter, VariantsAt, SomeVariants, NextVariant}
 use Rattle.unify.specs.declared.Frame.{Frame}
 use Rattle.unify.specs.declared.Unified.{Unified}
@@ -50,9 +50,9 @@ module _ {s s' : Bytes} {mark : ℕ} {f r : Frame} {u : Unified} where
   union-steps k g L t w p a = go p a
     where
       go : {M : Left} {x y : Ty} → Pair M x y → AnsweredPair s mark f u M x y → Comes s' mark r (left judged M)
-      go of-list b = absurd (omega (arith, b.stands.kind))
+      go of_list b = absurd (omega (arith, b.stands.kind))
       go of_map b = absurd (omega (arith, b.stands.kind))
-      go (of-union {v} {o} {vs} {os} {all} {ms} {met}) b = g v o vs os all ms met b.stands b.answer
+      go (of_union {v} {o} {vs} {os} {all} {ms} {met}) b = g v o vs os all ms met b.stands b.answer
 
 record UnionPair (s : Bytes) (mark : ℕ) (f : Frame) (u : Unified) : Type 0 where
   v : Ty
@@ -69,9 +69,9 @@ union-pair : {s : Bytes} {mark : ℕ} {f : Frame} {u : Unified} → SomePair s m
 union-pair {s} {mark} {f} {u} p k = go p.pair p.answered
   where
     go : {L : Left} {t w : Ty} → Pair L t w → AnsweredPair s mark f u L t w → UnionPair s mark f u
-    go of-list a = absurd (omega (arith, a.stands.kind))
+    go of_list a = absurd (omega (arith, a.stands.kind))
     go of_map a = absurd (omega (arith, a.stands.kind))
-    go (of-union {v} {o} {vs} {os} {all} {ms} {met}) a = record { v = v; o = o; vs = vs; os = os; all = all; ms = ms; met = met; stands = a.stands; answer = a.answer }
+    go (of_union {v} {o} {vs} {os} {all} {ms} {met}) a = record { v = v; o = o; vs = vs; os = os; all = all; ms = ms; met = met; stands = a.stands; answer = a.answer }
 
 -- what an answer says of the run
 answer-done : {s : Bytes} {m e : ℕ} (R : Run) → Answered R s m (Done e) → (t : Ty) × (R ≡ done t) × TypeAt s m e t
@@ -122,18 +122,18 @@ abbrev took : Frame → ℕ → Frame
 took f n =
     record { kind = f.kind; go = f.go; v = f.v; ve = f.ve; w = f.w; we = f.we; at = f.at; n = n; p = f.p; pe = f.pe; i = f.i; ie = f.ie; met = true }
 
-fine-answer : {s : Bytes} {mark : ℕ} {f : Frame} {v o t : Ty} → PairAt s mark f v o → judged v o ≡ done t → Fine t
-fine-answer {v = v} {o = o} p e = subst FineRun e (unify-fine v o (regular-sound v p.first.regular, p.first.small) (regular-sound o p.second.regular, p.second.small))
+fine_answer : {s : Bytes} {mark : ℕ} {f : Frame} {v o t : Ty} → PairAt s mark f v o → judged v o ≡ done t → Fine t
+fine_answer {v = v} {o = o} p e = subst FineRun e (unify-fine v o (regular-sound v p.first.regular, p.first.small) (regular-sound o p.second.regular, p.second.small))
 
 module _ {s : Bytes} {mark : ℕ} {f : Frame} {end : ℕ} (q : SomePair s mark f (Done end)) (kind : f.kind ≡ 10) where
   pub answer-bounds : (mark ≤ end) × (mark ≤ length s)
   answer-bounds = let p = union-pair q kind in go p (answer-done (judged p.v p.o) p.answer)
     where
       go : (p : UnionPair s mark f (Done end)) → (t : Ty) × (judged p.v p.o ≡ done t) × TypeAt s f.at end t → (mark ≤ end) × (mark ≤ length s)
-      go p (t, e, a) = (omega (arith, a.ordered, p.stands.at), omega (arith, p.stands.union.two-slots))
+      go p (t, e, a) = (omega (arith, a.ordered, p.stands.at), omega (arith, p.stands.union.room_for_two))
 
   front_of : {v o : Ty} {vs os all ms : List Ty} {met : Bool} → UnionPairAt s mark f v o vs os all ms met → TypesAt (take (length s - mark) (drop mark s)) 0 f.n ms
-  front_of p = part-types s mark 0 f.n (omega arith) refl p.union.members-at
+  front_of p = part-types s mark 0 f.n (omega arith) refl p.union.members_at
 
   new-of : {v o t : Ty} {vs os all ms : List Ty} {met : Bool} → UnionPairAt s mark f v o vs os all ms met → TypeAt s f.at end t → TypeAt (take (length s - mark) (drop mark s)) f.n (end - mark) t
   new-of p a = part_type s mark f.n (end - mark) (sym p.at) (omega (arith, a.ordered, p.at)) a
@@ -160,11 +160,11 @@ module _ {s : Bytes} {mark : ℕ} {f : Frame} {end : ℕ} (q : SomePair s mark f
       took-variants {v} {o} {t} {vs} {os} {all} {ms} {ls} u e d x =
           record {
             union =
-                union-on {g = took f n} u.union below₁ (record { kind = refl; pe = refl; i = refl; ie = refl }) u.union.outers-at (λ z m. m) u.union.outers-plain x
-                (subst MembersIf d (add-members (opened-plain t (fine-answer u.pair e)) (union-members-of u.union)));
+                union-on {g = took f n} u.union below₁ (record { kind = refl; pe = refl; i = refl; ie = refl }) u.union.outers_at (λ z m. m) u.union.outers_plain x
+                (subst MembersIf d (add-members (opened-plain t (fine_answer u.pair e)) (union-members-of u.union)));
             second = below-operand below₁ u.pair.second;
             outer = u.outer;
-            variants = below-types below₁ u.union.all-below u.variants;
+            variants = below-types below₁ u.union.all_below u.variants;
             among = λ z m. u.among z (Memᴰ.tail m);
           }
 
@@ -261,7 +261,7 @@ lines-some (t ∷ ts) h = omega (arith, line-long t, length-append (line t) (lin
 record Inside (s : Bytes) (mark a ae : ℕ) (ts : Tys) : Type 0 where
   at : TypesAt s (a + 2) (ae - 2) (members ts)
   below : ae - 2 ≤ mark
-  some-type : a + 2 < ae - 2
+  some_type : a + 2 < ae - 2
   fit : ae - 2 ≤ a + 2 + 1024
   plain : All Plain (members ts)
   member : Ty
@@ -275,7 +275,7 @@ inside {s} {mark} {a} {ae} ts o =
     record {
       at = subst (λ (k : ℕ). TypesAt s (a + 2) k (members ts)) (omega arith) (union-members ts o.at);
       below = omega (arith, o.below);
-      some-type = omega (arith, lines-some (members ts) (omega arith));
+      some_type = omega (arith, lines-some (members ts) (omega arith));
       fit = omega (arith, small-long o.at o.small);
       plain = union-plain ts (g, o.small);
       member = m.0;
@@ -293,20 +293,20 @@ begin {s} {mark} f {os} {a} {ae} {ts} k z t b p d i e r h =
     let y : mark + f.n ≡ mark = omega (arith, z) in
     record {
       kind = k;
-      outers-at = t;
-      outers-below = b;
-      all-at = subst (λ (x : ℕ). TypesAt s x f.ie (members ts)) (sym i) (subst (λ (x : ℕ). TypesAt s (a + 2) x (members ts)) (sym e) d.at);
-      all-below = omega (arith, d.below);
-      all-some = omega (arith, d.some-type);
+      outers_at = t;
+      outers_below = b;
+      all_at = subst (λ (x : ℕ). TypesAt s x f.ie (members ts)) (sym i) (subst (λ (x : ℕ). TypesAt s (a + 2) x (members ts)) (sym e) d.at);
+      all_below = omega (arith, d.below);
+      all_some = omega (arith, d.some_type);
       all_fit = omega (arith, d.fit);
-      members-at = record { ordered = omega arith; inside = omega arith; is = ap (λ (x : ℕ). slice mark x s) y ∙ slice_empty mark s };
-      members-fit = omega arith;
-      outers-plain = p;
+      members_at = record { ordered = omega arith; inside = omega arith; is = ap (λ (x : ℕ). slice mark x s) y ∙ slice_empty mark s };
+      members_fit = omega arith;
+      outers_plain = p;
       all_plain = d.plain;
-      ms-plain = empty;
+      ms_plain = empty;
       ascend = no-members.ascend;
       rooms = r;
-      two-slots = h;
+      room_for_two = h;
     }
 
 plain-operand : {s : Bytes} {mark a ae : ℕ} {t : Ty} → Operand s a ae mark t → is_union t ≡ false → Plain t
@@ -404,12 +404,12 @@ union-end (stopped large) h k g = absurd (omega (arith, h))
 module _ {s : Bytes} {mark : ℕ} {f : Frame} (k : f.kind ≡ 10) (g : f.go ≡ 2) where
   pub finish-some : SomeEnd s mark f → SomeUnion s mark f.n
   finish-some e =
-      let u = union-end e.left-of e.stands k g in
-      record { members = u.0; at = u.2.members-at; room = omega (arith, u.2.room, u.2.members-fit) }
+      let u = union-end e.left_of e.stands k g in
+      record { members = u.0; at = u.2.members_at; room = omega (arith, u.2.room, u.2.members_fit) }
 
   pub finish-law : {s' : Bytes} {r : Unified} → ClosedUnion s s' mark f.n r → Finished s s' mark f r
   unfolding left run_members
   finish-law {s'} {r} c = record { below = c.below; answer = λ L h o. go L (union-end L h k g) }
     where
       go : (L : Left) → (ms : List Ty) × (L ≡ union_done ms) × UnionDoneAt s mark f ms → Answered (left judged L) s' mark r
-      go L (ms, e, u) = subst (λ (z : Left). Answered (left judged z) s' mark r) (sym e) (c.answer ms u.members-at)
+      go L (ms, e, u) = subst (λ (z : Left). Answered (left judged z) s' mark r) (sym e) (c.answer ms u.members_at)

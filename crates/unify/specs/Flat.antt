@@ -46,12 +46,12 @@ pub record NullAnswer (s s' : Bytes) (from n mark : ℕ) (r : Unified) : Type 0 
 -- ## Two node types
 
 pub record SomeNodes (s : Bytes) (a b mark : ℕ) : Type 0 where
-  pub first-end : ℕ
-  pub second-end : ℕ
-  pub first-labels : Option (List Bytes)
-  pub second-labels : Option (List Bytes)
-  pub first : Operand s a first-end mark (t_node first-labels)
-  pub second : Operand s b second-end mark (t_node second-labels)
+  pub first_end : ℕ
+  pub second_end : ℕ
+  pub first_labels : Option (List Bytes)
+  pub second_labels : Option (List Bytes)
+  pub first : Operand s a first_end mark (t_node first_labels)
+  pub second : Operand s b second_end mark (t_node second_labels)
   pub room : mark + type_limit ≤ length s
 
 pub record NodesAnswer (s s' : Bytes) (a b mark : ℕ) (r : Unified) : Type 0 where

@@ -133,20 +133,20 @@ pub record Plain (t : Ty) : Type 0 where
 -- the types of a union that is being made: variants at [i, ie), outer types from p to pe, members so far at the mark
 pub record UnionAt (s : Bytes) (mark : ℕ) (f : Frame) (outers all ms : List Ty) : Type 0 where
   pub kind : f.kind ≡ unions_arm
-  pub outers-at : TypesAt s f.p f.pe outers
-  pub outers-below : f.pe ≤ mark
-  pub all-at : TypesAt s f.i f.ie all
-  pub all-below : f.ie ≤ mark
-  pub all-some : f.i < f.ie
+  pub outers_at : TypesAt s f.p f.pe outers
+  pub outers_below : f.pe ≤ mark
+  pub all_at : TypesAt s f.i f.ie all
+  pub all_below : f.ie ≤ mark
+  pub all_some : f.i < f.ie
   pub all_fit : f.ie ≤ f.i + type_limit
-  pub members-at : TypesAt s mark (mark + f.n) ms
-  pub members-fit : f.n ≤ type_limit
-  pub outers-plain : All Plain outers
+  pub members_at : TypesAt s mark (mark + f.n) ms
+  pub members_fit : f.n ≤ type_limit
+  pub outers_plain : All Plain outers
   pub all_plain : All Plain all
-  pub ms-plain : All Plain ms
+  pub ms_plain : All Plain ms
   pub ascend : ascending (map line ms) ≡ true
   pub rooms : (x y : Ty) → Memᴰ x all → Memᴰ y outers → Room s mark x y
-  pub two-slots : mark + two_slots ≤ length s
+  pub room_for_two : mark + two_slots ≤ length s
 
 pub record UnionPairAt (s : Bytes) (mark : ℕ) (f : Frame) (v o : Ty) (vs os all ms : List Ty) (has-met : Bool) : Type 0 where
   pub union : UnionAt s mark f (o ∷ os) all ms
@@ -165,8 +165,8 @@ pub record UnionSkipAt (s : Bytes) (mark : ℕ) (f : Frame) (o : Ty) (os all ms 
 pub record UnionDoneAt (s : Bytes) (mark : ℕ) (f : Frame) (ms : List Ty) : Type 0 where
   pub kind : f.kind ≡ unions_arm
   pub go : f.go ≡ nothing_left
-  pub members-at : TypesAt s mark (mark + f.n) ms
-  pub members-fit : f.n ≤ type_limit
+  pub members_at : TypesAt s mark (mark + f.n) ms
+  pub members_fit : f.n ≤ type_limit
   pub room : mark + two_slots ≤ length s
 
 -- stopped: apart with the two types, or too large
@@ -187,6 +187,6 @@ FrameAt s mark f (stopped r) = StoppedAt s mark f r
 
 -- a frame that comes to the run R
 pub record Comes (s : Bytes) (mark : ℕ) (f : Frame) (R : Run) : Type 0 where
-  pub left-of : Left
-  pub stands : FrameAt s mark f left-of
-  pub comes : left judged left-of ≡ R
+  pub left_of : Left
+  pub stands : FrameAt s mark f left_of
+  pub comes : left judged left_of ≡ R

@@ -27,7 +27,7 @@ pub record MergeFor (s : Bytes) (m : Merge) (mark : ℕ) (R : Run) : Type 0 wher
   pub first : Fields
   pub second : Fields
   pub k : Option Fields
-  pub first-at : EntriesAt s m.p mark first
+  pub first_at : EntriesAt s m.p mark first
   pub second_at : EntriesAt s m.q mark second
   pub kept : KeptAt s mark m.n k
   pub comes : run_maps judged first second k ≡ R

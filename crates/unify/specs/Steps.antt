@@ -52,16 +52,16 @@ pub record AnsweredPair (s : Bytes) (mark : ℕ) (f : Frame) (u : Unified) (L : 
 
 -- which pair a frame has next
 pub data Pair : Left → Ty → Ty → Type 0 where
-  of-list : {t u : Ty} → Pair (list_pair t u) t u
+  of_list : {t u : Ty} → Pair (list_pair t u) t u
   of_map : {n : Bytes} {t u : Ty} {fs gs : Fields} {k : Option Fields} → Pair (map_pair n t u fs gs k) t u
-  of-union : {v o : Ty} {vs os all ms : List Ty} {met : Bool} → Pair (union_pair v o vs os all ms met) v o
+  of_union : {v o : Ty} {vs os all ms : List Ty} {met : Bool} → Pair (union_pair v o vs os all ms met) v o
 
 pub record SomePair (s : Bytes) (mark : ℕ) (f : Frame) (u : Unified) : Type 0 where
-  pub left-of : Left
+  pub left_of : Left
   pub first : Ty
   pub second : Ty
-  pub pair : Pair left-of first second
-  pub answered : AnsweredPair s mark f u left-of first second
+  pub pair : Pair left_of first second
+  pub answered : AnsweredPair s mark f u left_of first second
 
 -- after the answer: the frame comes to the same, whichever it is, and falls
 pub record Stepped (s s' : Bytes) (mark : ℕ) (f : Frame) (u : Unified) (r : Frame) : Type 0 where
@@ -84,8 +84,8 @@ pub record Skipped (s s' : Bytes) (mark : ℕ) (f r : Frame) : Type 0 where
 
 -- a frame that has no pair left
 pub record SomeEnd (s : Bytes) (mark : ℕ) (f : Frame) : Type 0 where
-  pub left-of : Left
-  pub stands : FrameAt s mark f left-of
+  pub left_of : Left
+  pub stands : FrameAt s mark f left_of
   pub over : nothing_left ≤ f.go
   pub room : mark + type_limit ≤ length s
 

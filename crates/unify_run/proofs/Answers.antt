@@ -11,7 +11,7 @@ use Rattle.semantics.specs.Ty.{t_any, t_null, t_unknown, Ty, t_list, t_map, t_un
 use Rattle.semantics.specs.Unify.{Answer, Unified, gives, on_agreed, on_field, tested, unify_maps, Variants, variants_with, widened, unify_union_with, Meeting, pair, arms, unify_in, unify}
 use Rattle.semantics.specs.Calls.{any_large}
 use Rattle.semantics.proofs.All.{either}
-use Rattle.semantics.proofs.Meetings.{Met, two-numbers, two-lists, two-maps, two-nodes, two-relationships, two-unions, union_left, union_right, no-rule, met}
+use Rattle.semantics.proofs.Meetings.{Met, two_numbers, two_lists, two_maps, two_nodes, two_relationships, two_unions, union_left, union_right, no_rule, met}
 use Rattle.semantics.proofs.Regular.{Regular}
 use Rattle.semantics.proofs.RegularUnify.{RegularAnswer, unify-answer}
 use Rattle.unify_run.specs.Run.{Run, done, mismatch, large, answered, unless, verdict, checked, on_done}
@@ -98,15 +98,15 @@ list-apart rec k t u p q =
 
 pair-apart : (rec : Ty → Ty → Unified) → Keeps rec → {a b : Ty} {m : Meeting} → Met a b m → Small a → Small b → Apart (pair rec m)
 unfolding pair
-pair-apart rec k (two-numbers b c x y) p q = tt
-pair-apart rec k (two-lists t u) p q = list-apart rec k t u p q
-pair-apart rec k (two-maps fs gs) p q = maps-apart rec k fs gs fs ∅ᶠ (small-map gs q) (small-map fs p)
-pair-apart rec k (two-nodes ls ks) p q = tt
-pair-apart rec k (two-relationships m n) p q = tt
-pair-apart rec k (two-unions ts us) p q = union-apart rec (members ts) (t_union us)
+pair-apart rec k (two_numbers b c x y) p q = tt
+pair-apart rec k (two_lists t u) p q = list-apart rec k t u p q
+pair-apart rec k (two_maps fs gs) p q = maps-apart rec k fs gs fs ∅ᶠ (small-map gs q) (small-map fs p)
+pair-apart rec k (two_nodes ls ks) p q = tt
+pair-apart rec k (two_relationships m n) p q = tt
+pair-apart rec k (two_unions ts us) p q = union-apart rec (members ts) (t_union us)
 pair-apart rec k (union_left ts u x) p q = union-apart rec (members ts) u
 pair-apart rec k (union_right t us x) p q = union-apart rec (members us) t
-pair-apart rec k (no-rule a b e) p q = (p, q)
+pair-apart rec k (no_rule a b e) p q = (p, q)
 
 arms-apart : (rec : Ty → Ty → Unified) → Keeps rec → Keeps (arms rec)
 unfolding arms

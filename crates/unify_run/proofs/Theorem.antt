@@ -14,7 +14,7 @@ use Rattle.semantics.specs.Ty.{t_any, t_null, t_num, t_unknown, Ty, base, t_list
 use Rattle.semantics.specs.Unify.{Unified, gives, differs, unites, on_agreed, tested, unify_maps, unify_label_sets, unify_names, unify_union_with, Meeting, pair, arms, unify}
 use Rattle.semantics.proofs.All.{All, empty, also, all-weaken}
 use Rattle.semantics.proofs.Order.{TriTy, lt, eq, gt, tri_ty, insert-lt, insert-gt, inserts-swap, same-eq, equal-refl}
-use Rattle.semantics.proofs.Meetings.{Met, two-numbers, two-lists, two-maps, two-nodes, two-relationships, two-unions, union_left, union_right, no-rule, met}
+use Rattle.semantics.proofs.Meetings.{Met, two_numbers, two_lists, two_maps, two_nodes, two_relationships, two_unions, union_left, union_right, no_rule, met}
 use Rattle.semantics.proofs.Regular.{Regular, RegularF, Member}
 use Rattle.unify_run.specs.Run.{Run, done, mismatch, large, verdict, checked, on_done, given, long, kept, add, sizes, nullable, run_maps, run_members, run_pair, run_arms, run_unify, run}
 use Rattle.unify_run.specs.Claims.{RunningUnify}
@@ -178,15 +178,15 @@ module _ (k : ℕ) (rec : Ty → Ty → Run) (right : Right k rec) where
 
   pair-run : {a b : Ty} {r : Meeting} → Met a b r → nesting a + nesting b ≤ k → Regular a → Small a → Regular b → Small b → matches a (t_null ∷ []) ≡ false → matches b (t_null ∷ []) ≡ false → equal a b ≡ false → Says (run_pair rec r) (pair unify r)
   unfolding run_pair pair
-  pair-run (two-numbers b c x y) l p s q t m n e = record { says = fixed (base t_num) (base-small t_num) }
-  pair-run (two-lists x u) l p s q t m n e = record { says = lists-pair x u l p s q t }
-  pair-run (two-maps fs gs) l p s q t m n e = record { says = maps-pair fs gs l p s q t }
-  pair-run (two-nodes ls ks) l p s q t m n e = record { says = nodes-run ls ks p q ∙ sym (verdict-gives (t_node (unify_label_sets ls ks))) }
-  pair-run (two-relationships r o) l p s q t m n e = record { says = fixed (t_relationship none) rel-small ∙ ap (λ x. verdict (tested (gives [] (t_relationship x)))) (sym (rel-none r o e)) }
-  pair-run (two-unions ts us) l p s q t m n e = record { says = unions-both ts us l p s q t }
+  pair-run (two_numbers b c x y) l p s q t m n e = record { says = fixed (base t_num) (base-small t_num) }
+  pair-run (two_lists x u) l p s q t m n e = record { says = lists-pair x u l p s q t }
+  pair-run (two_maps fs gs) l p s q t m n e = record { says = maps-pair fs gs l p s q t }
+  pair-run (two_nodes ls ks) l p s q t m n e = record { says = nodes-run ls ks p q ∙ sym (verdict-gives (t_node (unify_label_sets ls ks))) }
+  pair-run (two_relationships r o) l p s q t m n e = record { says = fixed (t_relationship none) rel-small ∙ ap (λ x. verdict (tested (gives [] (t_relationship x)))) (sym (rel-none r o e)) }
+  pair-run (two_unions ts us) l p s q t m n e = record { says = unions-both ts us l p s q t }
   pair-run (union_left ts u x) l p s q t m n e = record { says = union-run u ts x n (omega arith) q t p s }
   pair-run (union_right x us y) l p s q t m n e = record { says = union-run x us y m l p s q t }
-  pair-run (no-rule a b x) l p s q t m n e = differ a b
+  pair-run (no_rule a b x) l p s q t m n e = differ a b
 
   arms-says : (a b : Ty) → nesting a + nesting b ≤ k → Regular a → Regular b → Small a → Small b → Says (run_arms rec a b) (arms unify a b)
   unfolding run_arms arms

@@ -173,8 +173,8 @@ module _ (a b work : Bytes) (size : length work ≡ work_size) (l : Line a) (k :
   long₂ : length s₂ ≡ work_size
   long₂ = ap length e₂ ∙ length-sets s₁ m b ∙ long₁
 
-  first-at : slice 0 m s₂ ≡ a
-  first-at =
+  first_at : slice 0 m s₂ ≡ a
+  first_at =
       ap (slice 0 m) e₂ ∙ slice-below 0 m s₁ m b (omega arith) ∙ ap (slice 0 m) e₁ ∙ ap (λ (j : ℕ). slice 0 j (sets work 0 a)) em
       ∙ slice-sets work 0 a (omega (arith, (line-short l).0))
 
@@ -184,7 +184,7 @@ module _ (a b work : Bytes) (size : length work ≡ work_size) (l : Line a) (k :
   first-operand : Operand s₂ 0 m mark l.ty
   first-operand =
       record {
-        at = record { ordered = omega arith; inside = omega (arith, long₂, (line-short l).0); is = first-at ∙ sym l.is };
+        at = record { ordered = omega arith; inside = omega (arith, long₂, (line-short l).0); is = first_at ∙ sym l.is };
         below = omega arith;
         regular = l.regular;
         small = l.small;

@@ -8,7 +8,7 @@ use native.Mathlib.Omega.{arith}
 use Rattle.semantics.specs.Ty.{t_any, t_null, t_unknown, Ty, base, t_list, t_map, t_union, Tys, Fields, ∅ᶠ, field, members, matches, equal, nesting, set_field, get_field}
 use Rattle.semantics.specs.Unify.{Answer, agreed, mismatch, Unified, gives, on_agreed, tested, on_field, extras, unify_maps, Variants, variants_with, widened, unify_union_with, Meeting, pair, arms, unify_in, unify}
 use Rattle.semantics.proofs.All.{All, empty, also, all_append, either}
-use Rattle.semantics.proofs.Meetings.{Met, two-numbers, two-lists, two-maps, two-nodes, two-relationships, two-unions, union_left, union_right, no-rule, met}
+use Rattle.semantics.proofs.Meetings.{Met, two_numbers, two_lists, two_maps, two_nodes, two_relationships, two_unions, union_left, union_right, no_rule, met}
 use Rattle.walk_run.specs.Depth.{levels, levels_f}
 use Rattle.walk_run.proofs.Levels.{Low, LowF, members-low, unite-low, set-low, LowOption, get-low}
 
@@ -110,15 +110,15 @@ union-low m rec k other ts h l =
 
 pair-low : (m : ℕ) (rec : Ty → Ty → Unified) → Keeps rec → {a b : Ty} {e : Meeting} → Met a b e → Low m a → Low m b → LowUnified m (pair rec e)
 unfolding pair levels
-pair-low m rec k (two-numbers b c x y) p q = omega arith
-pair-low m rec k (two-lists t u) p q = list-low m rec k t u p q
-pair-low m rec k (two-maps fs gs) p q = map-low m rec k fs gs p q
-pair-low m rec k (two-nodes ls ks) p q = omega arith
-pair-low m rec k (two-relationships l n) p q = omega arith
-pair-low m rec k (two-unions ts us) p q = union-low m rec k (t_union us) ts q p
+pair-low m rec k (two_numbers b c x y) p q = omega arith
+pair-low m rec k (two_lists t u) p q = list-low m rec k t u p q
+pair-low m rec k (two_maps fs gs) p q = map-low m rec k fs gs p q
+pair-low m rec k (two_nodes ls ks) p q = omega arith
+pair-low m rec k (two_relationships l n) p q = omega arith
+pair-low m rec k (two_unions ts us) p q = union-low m rec k (t_union us) ts q p
 pair-low m rec k (union_left ts u x) p q = union-low m rec k u ts q p
 pair-low m rec k (union_right t us x) p q = union-low m rec k t us p q
-pair-low m rec k (no-rule a b x) p q = tt
+pair-low m rec k (no_rule a b x) p q = tt
 
 arms-low : (rec : Ty → Ty → Unified) → Keeps rec → Keeps (arms rec)
 unfolding arms levels

@@ -12,8 +12,8 @@ use Rattle.semantics.specs.Unify.{Answer, agreed, mismatch, unify}
 use Rattle.semantics.specs.Builtins.{ReturnShape, fixed, list_element, list_self, Builtin, builtin_id, builtin_size, builtin_head, builtin_tail, builtin_last, builtin_keys, builtin_values, signature, lookup, element_of, list_or, resolve_return}
 use Rattle.semantics.specs.Sheet.{Head, num, Role, plain, condition, answer, inner, Typing, constant, var_type, element, slice, listing, mapping, calling, operator, unary, casing, membership, comprehension, Rule, silent, entering, typed, rule, roles, arity}
 use Rattle.semantics.specs.Walk.{Res, Env, kind_type, var_type_in, var_type_of, a_number, meets, numeric, Op, arithmetic, comparison, equality, boolean, string, concat, op, or_else, op_type, unary_type, call_type, grown, running, listed, mapped, answers, last_of, ty_of, tys, nth, type_by, type_of, step, walk}
-use Rattle.semantics.proofs.Words.{Simple, a-base, a-map, row-simple}
-use Rattle.semantics.proofs.All.{All, empty, also, all_map, all-at, either}
+use Rattle.semantics.proofs.Words.{Simple, a_base, a_map, row-simple}
+use Rattle.semantics.proofs.All.{All, empty, also, all_map, all_at, either}
 use Rattle.semantics.proofs.RegularWalk.{AllRegular, walk-regular}
 use Rattle.walk_run.specs.Depth.{levels, greatest, rise, height, Pairs, no_pairs, pairing}
 use Rattle.walk_run.proofs.Levels.{Low, LowF, unite-low, set-low, nesting-levels}
@@ -26,8 +26,8 @@ LowTyping k = (t : Ty) → k ≡ constant t → Low 1 t
 
 simple-low : {t : Ty} → Simple t → Low 1 t
 unfolding levels
-simple-low (a-base b) = omega arith
-simple-low a-map = omega arith
+simple-low (a_base b) = omega arith
+simple-low a_map = omega arith
 
 abbrev LowReturn : ReturnShape → Type 0
 LowReturn (fixed t) = Low 1 t
@@ -154,7 +154,7 @@ tys-low m a = all_map ty_of (λ e h. h) a
 
 nth-low : (m : ℕ) {es : List (Bytes × Ty)} → All (LowEntry m) es → (i : ℕ) → Low m (nth es i)
 unfolding levels
-nth-low m a i = let z : Low m (base t_unknown) = omega arith in all-at (base t_unknown) z (tys-low m a) i
+nth-low m a i = let z : Low m (base t_unknown) = omega arith in all_at (base t_unknown) z (tys-low m a) i
 
 type-by-low : (m : ℕ) (k : Typing) → LowTyping k → (env : Env) (h : Head) (ps : List Role) {es : List (Bytes × Ty)} → All (LowEntry m) es → Low (suc m) (type_by k env h ps es)
 unfolding type_by levels

@@ -9,7 +9,7 @@ use lib.ListN.{length}
 use Rattle.semantics.specs.Ty.{t_any, t_unknown, Ty, base, t_list, t_map, Fields, ∅ᶠ, fields_to, line_to, line, nesting, nesting_f, too_large, set_field}
 use Rattle.semantics.specs.Unify.{Answer, Unified, unify}
 use Rattle.semantics.specs.Sheet.{Head, Role, Rule, comprehension, listing, mapping}
-use Rattle.semantics.specs.Walk.{Res, Env, or_else, grown, running, listed, mapped, last_of, tys, type_by, own_by, last_by, no_part, list-part, map-part, child_by, child as child_of, on, through, spread, named}
+use Rattle.semantics.specs.Walk.{Res, Env, or_else, grown, running, listed, mapped, last_of, tys, type_by, own_by, last_by, no_part, list_part, map_part, child_by, child as child_of, on, through, spread, named}
 use Rattle.semantics.specs.Calls.{first_large, any_large}
 use Rattle.unify_run.specs.Run.{answered, unless, verdict, given}
 use Rattle.unify_run.proofs.Verdict.{large-append}
@@ -77,20 +77,20 @@ item-given n u x f e =
 
 -- the list from here on, its running element being s
 abbrev Listing : ℕ → Env → Head → Ty → List Role → List Res → Type 0
-Listing n env h s ps rs = let t = t_list (running s (tys (named rs))) in Alike n listing (t ∷ []) t [] (end listing env h) (list-part s) (items (some s)) ps rs
+Listing n env h s ps rs = let t = t_list (running s (tys (named rs))) in Alike n listing (t ∷ []) t [] (end listing env h) (list_part s) (items (some s)) ps rs
 
 listing-next : (n : ℕ) (env : Env) (h : Head) (s : Ty) (p : Role) (ps : List Role) (r : Res) (rs : List Res) → ((g : Ty) → too_large (t_list g) ≡ false → Listing n env h g ps rs) → Listing n env h s (p ∷ ps) (r ∷ rs)
 unfolding running
 listing-next n env h s p ps r rs more =
     let t = t_list (running (grown s r.ty) (tys (named rs))) in
-    let x : Ty → Ran = λ g. let w = t_list (running g (tys (named rs))) in defined n listing (list-part g) ps rs (w ∷ []) w [] in
+    let x : Ty → Ran = λ g. let w = t_list (running g (tys (named rs))) in defined n listing (list_part g) ps rs (w ∷ []) w [] in
     let f : Kept → Ran = λ i. closed n (kids n listing i ps rs) (end listing env h) in
-    alike-cons n listing (t ∷ []) t [] (end listing env h) (list-part s) (items (some s)) p ps r rs (λ z. unfold child_by child keep_item in item-given n (unify s r.ty) x f more)
+    alike-cons n listing (t ∷ []) t [] (end listing env h) (list_part s) (items (some s)) p ps r rs (λ z. unfold child_by child keep_item in item-given n (unify s r.ty) x f more)
 
 listing-items : (n : ℕ) (env : Env) (h : Head) (s : Ty) → too_large (t_list s) ≡ false → (ps : List Role) (rs : List Res) → length ps ≡ length rs → Listing n env h s ps rs
 listing-items n env h s q [] [] l =
     unfold running in
-    alike-nil n listing (t_list s ∷ []) (t_list s) [] (end listing env h) (list-part s) (items (some s)) (unfold end end_list in ending-small n (t_list s) [] q)
+    alike-nil n listing (t_list s ∷ []) (t_list s) [] (end listing env h) (list_part s) (items (some s)) (unfold end end_list in ending-small n (t_list s) [] q)
 listing-items n env h s q [] (r ∷ rs) l = absurd (omega arith)
 listing-items n env h s q (p ∷ ps) [] l = absurd (omega arith)
 listing-items n env h s q (p ∷ ps) (r ∷ rs) l = listing-next n env h s p ps r rs (λ g w. listing-items n env h g w ps rs (omega arith))
@@ -106,7 +106,7 @@ listing-all n env h (p ∷ ps) [] l = absurd (omega arith)
 listing-all n env h (p ∷ ps) (r ∷ rs) l =
     let s = r.ty in
     let t = t_list (running s (tys (named rs))) in
-    let x : Ran = defined n listing (list-part s) ps rs (t ∷ []) t [] in
+    let x : Ran = defined n listing (list_part s) ps rs (t ∷ []) t [] in
     let f : Kept → Ran = λ i. closed n (kids n listing i ps rs) (end listing env h) in
     alike-cons n listing (t ∷ []) t [] (end listing env h) no_part (items none) p ps r rs
     (λ z. unfold child_by child keep_item in
@@ -123,7 +123,7 @@ map-tiny = refl
 
 -- the map from here on, with these entries already
 abbrev Mapping : ℕ → Env → Head → Fields → List Role → List Res → Type 0
-Mapping n env h es ps rs = let t = t_map (mapped es (named rs)) in Alike n mapping (t ∷ []) t [] (end mapping env h) (map-part es) (entries es) ps rs
+Mapping n env h es ps rs = let t = t_map (mapped es (named rs)) in Alike n mapping (t ∷ []) t [] (end mapping env h) (map_part es) (entries es) ps rs
 
 mapping-next : (n : ℕ) (env : Env) (h : Head) (es : Fields) (p : Role) (ps : List Role) (r : Res) (rs : List Res)
     → let gs = set_field r.name r.ty es in (too_large (t_map gs) ≡ false → Mapping n env h gs ps rs) → Mapping n env h es (p ∷ ps) (r ∷ rs)
@@ -131,22 +131,22 @@ unfolding mapped
 mapping-next n env h es p ps r rs more =
     let gs = set_field r.name r.ty es in
     let t = t_map (mapped gs (named rs)) in
-    let x : Ran = defined n mapping (map-part gs) ps rs (t ∷ []) t [] in
+    let x : Ran = defined n mapping (map_part gs) ps rs (t ∷ []) t [] in
     let f : Kept → Ran = λ i. closed n (kids n mapping i ps rs) (end mapping env h) in
-    alike-cons n mapping (t ∷ []) t [] (end mapping env h) (map-part es) (entries es) p ps r rs
+    alike-cons n mapping (t ∷ []) t [] (end mapping env h) (map_part es) (entries es) p ps r rs
     (λ z. unfold child_by child keep_entry in (ap (λ b. halt_ran (line_if n b) x) (large-one (t_map gs)) ∙ tested-given n (t_map gs) (entries gs) x f more))
 
 mapping-entries : (n : ℕ) (env : Env) (h : Head) (es : Fields) → too_large (t_map es) ≡ false → (ps : List Role) (rs : List Res) → length ps ≡ length rs → Mapping n env h es ps rs
 mapping-entries n env h es q [] [] l =
     unfold mapped in
-    alike-nil n mapping (t_map es ∷ []) (t_map es) [] (end mapping env h) (map-part es) (entries es) (unfold end end_map in ending-small n (t_map es) [] q)
+    alike-nil n mapping (t_map es ∷ []) (t_map es) [] (end mapping env h) (map_part es) (entries es) (unfold end end_map in ending-small n (t_map es) [] q)
 mapping-entries n env h es q [] (r ∷ rs) l = absurd (omega arith)
 mapping-entries n env h es q (p ∷ ps) [] l = absurd (omega arith)
 mapping-entries n env h es q (p ∷ ps) (r ∷ rs) l =
     mapping-next n env h es p ps r rs (λ w. mapping-entries n env h (set_field r.name r.ty es) w ps rs (omega arith))
 
 -- a map begins with no entries
-mapping-none : (n : ℕ) (rs : List Res) → through n (Rule.typed mapping) no_part rs ≡ through n (Rule.typed mapping) (map-part ∅ᶠ) rs
+mapping-none : (n : ℕ) (rs : List Res) → through n (Rule.typed mapping) no_part rs ≡ through n (Rule.typed mapping) (map_part ∅ᶠ) rs
 unfolding through child_of child_by
 mapping-none n [] = refl
 mapping-none n (r ∷ rs) = refl

@@ -7,7 +7,7 @@ use lib.ListN.{length}
 use Rattle.semantics.specs.Ty.{Ty, too_large}
 use Rattle.semantics.specs.Sheet.{Head, Role, Typing, constant, var_type, element, slice, listing, mapping, calling, operator, unary, casing, membership, comprehension, Rule, rule, roles, arity}
 use Rattle.semantics.specs.Walk.{Res, Env, step}
-use Rattle.semantics.proofs.Words.{Simple, a-base, a-map, row-simple}
+use Rattle.semantics.proofs.Words.{Simple, a_base, a_map, row-simple}
 use Rattle.semantics.proofs.All.{All}
 use Rattle.unify_run.proofs.UnionsMeet.{base-small}
 use Rattle.walk_run.specs.Run.{run_step, judged}
@@ -26,8 +26,8 @@ abbrev pub TinyTyping : Typing → Type 0
 TinyTyping k = (t : Ty) → k ≡ constant t → too_large t ≡ false
 
 simple-tiny : {t : Ty} → Simple t → too_large t ≡ false
-simple-tiny (a-base b) = base-small b
-simple-tiny a-map = map-tiny
+simple-tiny (a_base b) = base-small b
+simple-tiny a_map = map-tiny
 
 -- ## A line of any typing, whatever its roles
 

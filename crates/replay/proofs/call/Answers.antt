@@ -1,4 +1,3 @@
-use Rattle.std.proofs.Common.{rules}
 use Rattle.replay.proofs.call.Goals as goal
 
 pub returns-in-Sheet : goal.returns-in-Sheet

@@ -1,4 +1,4 @@
-use Rattle.std.proofs.Common.{arith, rules}
+use Rattle.std.proofs.Common.{arith}
 use Rattle.replay.proofs.Agreed.{number-differs, first-differs, last-decides}
 use Rattle.replay.proofs.is_answer.Goals as goal
 

@@ -1,5 +1,3 @@
-use Rattle.std.proofs.Common.{rules}
-use borrow.Author.Tests.{not-true, not-false}
 use Rattle.replay.proofs.Decided.{fails, both}
 use Rattle.replay.proofs.is_left.Goals as goal
 

@@ -1,5 +1,4 @@
-use Rattle.std.proofs.Common.{sym, ◌∙◌, arith, length-take-le, rules}
-use borrow.Author.Tests.{not-true, not-false}
+use Rattle.std.proofs.Common.{sym, ◌∙◌, arith, length-take-le}
 use Rattle.replay.proofs.Fills.{too_long, front-unlike, rest-decides}
 use Rattle.replay.proofs.is_then.Goals as goal
 

@@ -1,5 +1,3 @@
-use Rattle.std.proofs.Common.{rules}
-use borrow.Author.Tests.{not-true, not-false}
 use Rattle.replay.proofs.Agreed.{numbers-differ, left-same, left-differs}
 use Rattle.replay.proofs.judge.Goals as goal
 

@@ -1,4 +1,3 @@
-use Rattle.std.proofs.Common.{rules}
 use Rattle.replay.proofs.Agreed.{told}
 use Rattle.replay.proofs.regular.Goals as goal
 

@@ -1,5 +1,4 @@
 use Rattle.semantics.specs.Bytes.{text}
-use borrow.Author.Rules.{rules}
 use Rattle.report.proofs.end_line.Goals as goal
 
 pub returns : goal.returns

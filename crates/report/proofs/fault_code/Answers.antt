@@ -1,7 +1,6 @@
 use native.Mathlib.Omega.{arith}
 use Rattle.semantics.specs.Bytes.{shown, shown_in}
 use Rattle.report.proofs.ReportLaws.{starts, last_code}
-use borrow.Author.Rules.{rules}
 use Rattle.report.proofs.fault_code.Goals as goal
 
 pub returns-in-2009 : goal.returns-in-2009

@@ -1,4 +1,3 @@
-use borrow.Author.Rules.{rules}
 use mathlib.Core.Path.{refl}
 use Rattle.report.proofs.ReportLaws.{adds-line}
 use Rattle.report.proofs.fault_line.Goals as goal

@@ -1,4 +1,3 @@
-use borrow.Author.Rules.{rules}
 use Rattle.semantics.specs.Calls.{top_line}
 use Rattle.report.specs.Report.{type_text}
 use Rattle.report.proofs.ReportLaws.{wrote}

@@ -1,13 +1,10 @@
 use Prim.Native.Nat.{ℕ}
 use mathlib.Core.List.{List}
 use mathlib.Core.Path.{ap₂}
-use lib.ListN.{length, take, set, get_or}
-use lib.Seq.{sets, length-sets}
-use mathlib.Core.Path.{ap, ◌∙◌, sym}
-use Rattle.text.proofs.Laws.{sets_more, sets-all}
+use lib.ListN.{set, get_or}
+use mathlib.Core.Path.{◌∙◌, sym}
+use Rattle.text.proofs.Laws.{sets_more}
 use borrow.Author.Rules.{rules}
-use mathlib.Core.Path.{◌≡◌}
-use Prim.Native.Nat.{◌≤◌, ◌-◌, ◌+◌}
 use Rattle.text.proofs.append.Goals as goal
 
 pub loop-i-preserved : goal.loop-i-preserved

@@ -1,11 +1,5 @@
-use Prim.Native.Nat.{ℕ}
-use mathlib.Core.List.{List}
-use mathlib.Core.Path.{ap₂}
-use lib.ListN.{length, take, set, get_or}
-use lib.Seq.{sets, length-sets}
-use mathlib.Core.Path.{ap, ◌∙◌, sym}
-use Rattle.text.proofs.Laws.{sets_more, sets-all}
-use borrow.Author.Rules.{rules}
+use lib.ListN.{length, take}
+use lib.Seq.{sets}
 use mathlib.Core.Path.{◌≡◌}
 use Prim.Native.Nat.{◌≤◌, ◌-◌, ◌+◌}
 use Rattle.text.proofs.append.Given as goal

@@ -1,14 +1,7 @@
-use native.Mathlib.Omega.{arith}
-use Prim.Native.Nat.{ℕ}
-use mathlib.Core.List.{append-nil, List}
-use lib.ListN.{drop_of_length-le}
-use mathlib.Core.Path.{ap, ◌∙◌, sym, refl}
-use borrow.Author.Fill.{fill_none, fill_more}
-use borrow.Author.Rules.{rules}
 use lib.ListN.{length, drop, replicate}
 use mathlib.Core.List.{◌++◌}
 use mathlib.Core.Path.{◌≡◌}
-use Prim.Native.Nat.{◌≤◌, ◌-◌, ◌+◌}
+use Prim.Native.Nat.{◌≤◌, ◌-◌}
 use Rattle.text.proofs.clear.Given as goal
 
 abbrev pub invariant-loop-i : goal.invariant-loop-i

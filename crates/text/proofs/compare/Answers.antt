@@ -1,9 +1,6 @@
 use borrow.Author.Rules.{rules}
-use Prim.Native.Nat.{◌≤◌, ◌-◌}
-use lib.ListN.{length, drop}
-use Rattle.semantics.specs.Bytes.{lex}
 use Rattle.text.proofs.Words.{lex-less, lex-more, lex-on, lex-longer, lex-shorter, lex-end}
-use mathlib.Core.Path.{◌≡◌, ◌∙◌, sym}
+use mathlib.Core.Path.{◌∙◌, sym}
 use native.Mathlib.Omega.{arith}
 use Rattle.text.proofs.compare.Goals as goal
 

@@ -1,10 +1,7 @@
-use borrow.Author.Rules.{rules}
 use Prim.Native.Nat.{◌≤◌, ◌-◌}
 use lib.ListN.{length, drop}
 use Rattle.semantics.specs.Bytes.{lex}
-use Rattle.text.proofs.Words.{lex-less, lex-more, lex-on, lex-longer, lex-shorter, lex-end}
-use mathlib.Core.Path.{◌≡◌, ◌∙◌, sym}
-use native.Mathlib.Omega.{arith}
+use mathlib.Core.Path.{◌≡◌}
 use Rattle.text.proofs.compare.Given as goal
 
 abbrev pub invariant-loop-i : goal.invariant-loop-i

@@ -1,7 +1,6 @@
 use Rattle.semantics.specs.Bytes.{lex}
 use mathlib.Core.Path.{◌∙◌, ap₂}
 use Rattle.text.proofs.Laws.{part_slice}
-use borrow.Author.Rules.{rules}
 use Rattle.text.proofs.compare_in.Goals as goal
 
 pub returns : goal.returns

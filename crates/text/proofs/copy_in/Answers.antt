@@ -1,10 +1,5 @@
 use borrow.Author.Rules.{rules}
-use Prim.Native.Nat.{◌≤◌, ◌+◌, ◌-◌}
-use lib.Seq.{sets, slice}
-use lib.ListN.{length, take}
-use Rattle.text.proofs.Laws.{copy_more, sets-all, length_part}
-use mathlib.Core.Path.{◌≡◌, ◌∙◌, sym}
-use native.Mathlib.Omega.{arith}
+use Rattle.text.proofs.Laws.{copy_more}
 use Rattle.text.proofs.copy_in.Goals as goal
 
 pub loop-i-preserved : goal.loop-i-preserved

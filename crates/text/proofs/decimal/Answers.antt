@@ -2,7 +2,6 @@ use Rattle.text.specs.Text.{dec_of}
 use mathlib.Core.Path.{◌∙◌, sym, ap}
 use native.Mathlib.Omega.{arith}
 use Rattle.text.proofs.Words.{decimal-none, decimal-one, decimal-led, decimal-more}
-use borrow.Author.Rules.{rules}
 use Rattle.text.proofs.decimal.Goals as goal
 
 pub returns-then-t-eq0 : goal.returns-then-t-eq0

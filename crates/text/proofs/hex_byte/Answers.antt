@@ -2,7 +2,6 @@ use Prim.Native.Nat.{◌+◌}
 use lib.ListN.{get_or}
 use native.Mathlib.Omega.{arith}
 use Rattle.text.proofs.Words.{value-small}
-use borrow.Author.Rules.{rules}
 use Rattle.text.proofs.hex_byte.Goals as goal
 
 pub overflow_mul-result : goal.overflow_mul-result

@@ -1,6 +1,5 @@
 use mathlib.Core.Path.{◌∙◌, sym}
-use Rattle.text.proofs.Words.{digit-range, value-digit, value-letter, value-other, letter-yes, letter-low, letter-high}
-use borrow.Author.Rules.{rules}
+use Rattle.text.proofs.Words.{value-digit, value-letter, value-other, letter-yes, letter-low, letter-high}
 use Rattle.text.proofs.hex_value.Goals as goal
 
 pub returns-then-is_digit : goal.returns-then-is_digit

@@ -1,13 +1,8 @@
-use borrow.Author.Rules.{rules}
-use borrow.Author.Tests.{not-true, not-false}
-use Rattle.text.specs.declared.Dec.{Dec}
-use Rattle.text.specs.Text.{capped, dec_of, grown}
+use Rattle.text.specs.Text.{capped}
 use Rattle.semantics.specs.Bytes.{digits}
-use mathlib.Core.Path.{◌≡◌, ◌∙◌, sym, ap, refl}
-use Prim.Native.Nat.{ℕ, ◌≤◌, ◌-◌, ◌+◌, ◌*◌}
-use lib.ListN.{length, drop, get_or}
-use native.Mathlib.Omega.{arith}
-use Rattle.text.proofs.Words.{digit-range, number-on, number-off, number-end, grown-capped, capped_is}
+use mathlib.Core.Path.{◌≡◌}
+use Prim.Native.Nat.{ℕ, ◌≤◌, ◌-◌}
+use lib.ListN.{length, drop}
 use Rattle.text.proofs.number.Given as goal
 
 abbrev pub invariant-loop-i : goal.invariant-loop-i

@@ -1,13 +1,5 @@
-use native.Mathlib.Omega.{arith}
-use Prim.Native.Nat.{◌-◌}
-use mathlib.Core.Logic.{inl}
-use lib.ListN.{length-take}
 use borrow.Author.Rules.{rules}
 use Rattle.text.proofs.Laws.{aside-rotated}
-use Rattle.text.proofs.rotate_aside.Reads as reads
-use Rattle.text.proofs.rotate_aside.Lts as lts
-use Rattle.text.proofs.copy_in.Reads as copy-in-reads
-use Rattle.text.proofs.write_at.Reads as write-at-reads
 use Rattle.text.proofs.rotate_aside.Goals as goal
 
 pub returns : goal.returns

@@ -1,10 +1,7 @@
-use borrow.Author.Rules.{rules}
 use Prim.Native.Nat.{◌≤◌, ◌-◌}
 use lib.ListN.{length, drop}
 use Rattle.semantics.specs.Bytes.{same}
-use Rattle.text.proofs.Words.{same-on, same-off, same_end, same-unlike}
-use mathlib.Core.Path.{◌≡◌, ◌∙◌, sym}
-use native.Mathlib.Omega.{arith}
+use mathlib.Core.Path.{◌≡◌}
 use Rattle.text.proofs.same.Given as goal
 
 abbrev pub invariant-loop-i : goal.invariant-loop-i

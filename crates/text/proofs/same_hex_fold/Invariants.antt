@@ -1,13 +1,10 @@
-use borrow.Author.Rules.{rules}
 use Rattle.text.specs.Text.{digit_of}
 use Rattle.semantics.specs.Builtins.{lower, folded}
 use Rattle.semantics.specs.Bytes.{same}
 use mathlib.Core.List.{map}
-use mathlib.Core.Path.{◌≡◌, ◌∙◌, sym, ap}
+use mathlib.Core.Path.{◌≡◌}
 use Prim.Native.Nat.{◌≤◌, ◌-◌, ◌*◌, ◌/◌}
 use lib.ListN.{length, drop}
-use native.Mathlib.Omega.{arith}
-use Rattle.text.proofs.Words.{fold_on, fold-off, fold_end, fold-unlike}
 use Rattle.text.proofs.same_hex_fold.Given as goal
 
 abbrev pub invariant-loop-i : goal.invariant-loop-i

@@ -1,10 +1,5 @@
-use native.Mathlib.Omega.{arith}
-use lib.ListN.{length-take}
 use borrow.Author.Rules.{rules}
 use Rattle.text.proofs.Laws.{aside_moved}
-use Rattle.text.proofs.slide_aside.Reads as reads
-use Rattle.text.proofs.slide_aside.Lts as lts
-use Rattle.text.proofs.write_at.Reads as write-at-reads
 use Rattle.text.proofs.slide_aside.Goals as goal
 
 pub returns : goal.returns

@@ -1,10 +1,5 @@
 use borrow.Author.Rules.{rules}
-use Prim.Native.Nat.{◌≤◌, ◌+◌, ◌-◌}
-use lib.Seq.{sets, slice}
-use lib.ListN.{length, drop}
-use Rattle.text.proofs.Laws.{slide-turn, slide-start, slide-done}
-use mathlib.Core.Path.{◌≡◌, ◌∙◌, sym}
-use native.Mathlib.Omega.{arith}
+use Rattle.text.proofs.Laws.{slide-turn}
 use Rattle.text.proofs.slide_bytes.Goals as goal
 
 pub loop-i-preserved : goal.loop-i-preserved

@@ -1,10 +1,7 @@
-use borrow.Author.Rules.{rules}
-use Prim.Native.Nat.{◌≤◌, ◌+◌, ◌-◌}
+use Prim.Native.Nat.{◌≤◌, ◌+◌}
 use lib.Seq.{sets, slice}
 use lib.ListN.{length, drop}
-use Rattle.text.proofs.Laws.{slide-turn, slide-start, slide-done}
-use mathlib.Core.Path.{◌≡◌, ◌∙◌, sym}
-use native.Mathlib.Omega.{arith}
+use mathlib.Core.Path.{◌≡◌}
 use Rattle.text.proofs.slide_bytes.Given as goal
 
 abbrev pub invariant-loop-i : goal.invariant-loop-i

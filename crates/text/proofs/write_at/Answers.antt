@@ -1,10 +1,8 @@
-use Prim.Native.Nat.{ℕ, ◌≤◌, ◌-◌, ◌+◌}
+use Prim.Native.Nat.{ℕ, ◌+◌}
 use mathlib.Core.List.{List}
-use mathlib.Core.Path.{◌≡◌, ap, ◌∙◌, sym}
-use native.Mathlib.Omega.{arith}
-use lib.ListN.{length, take, set, get_or}
-use lib.Seq.{sets, length-sets}
-use Rattle.text.proofs.Laws.{sets_more, sets-all}
+use mathlib.Core.Path.{ap, ◌∙◌, sym}
+use lib.ListN.{set, get_or}
+use Rattle.text.proofs.Laws.{sets_more}
 use borrow.Author.Rules.{rules}
 use Rattle.text.proofs.write_at.Goals as goal
 

@@ -1,4 +1,4 @@
-use Rattle.ty.proofs.Lines.{list-room, list-part}
+use Rattle.ty.proofs.Lines.{list-room, list_part}
 use Rattle.ty.proofs.element.Goals as goal
 
 pub slice_bounds-result-count : goal.slice_bounds-result-count
@@ -8,4 +8,4 @@ pub slice_bounds-result-start : goal.slice_bounds-result-start
 slice_bounds-result-start c = list-room _ _ c.requires.is
 
 pub returns : goal.returns
-returns c = λ t e. list-part _ t e
+returns c = λ t e. list_part _ t e

@@ -1,4 +1,3 @@
-use borrow.Author.Rules.{rules}
 use Rattle.typesheet.proofs.say_refused.Goals as goal
 
 pub returns : goal.returns

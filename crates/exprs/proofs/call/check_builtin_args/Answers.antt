@@ -1,6 +1,5 @@
 use Rattle.exprs.proofs.CallLaws.{args_none, args-accepted, args-refused, first_kind}
 use native.Mathlib.Omega.{arith}
-use borrow.Author.Rules.{rules}
 use Rattle.exprs.proofs.call.check_builtin_args.Goals as goal
 
 pub returns-then-len-eq0 : goal.returns-then-len-eq0

@@ -2,7 +2,6 @@ use Rattle.exprs.proofs.CallLaws.{call_none, called, arg-some, arg-first, call_k
 use Rattle.exprs.specs.End.{arg_kept}
 use Rattle.walk_run.specs.Run.{args_of}
 use native.Mathlib.Omega.{arith}
-use borrow.Author.Rules.{rules}
 use Rattle.exprs.proofs.call.end_call.Goals as goal
 
 pub returns-then-row-eq-NO_BUILTIN : goal.returns-then-row-eq-NO_BUILTIN

@@ -1,6 +1,5 @@
 use mathlib.Core.Path.{refl}
 use Rattle.exprs.proofs.ChildLaws.{arm-over, arm_in, arm-on, arm-large}
-use borrow.Author.Rules.{rules}
 use Rattle.exprs.proofs.case.case_arm.Goals as goal
 
 pub returns-then-st-eq1 : goal.returns-then-st-eq1

@@ -1,4 +1,3 @@
-use borrow.Author.Rules.{rules}
 use Rattle.exprs.proofs.ChildLaws.{answer-kept, answer-other}
 use Rattle.exprs.proofs.case.case_child.Goals as goal
 

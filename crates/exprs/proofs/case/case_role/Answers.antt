@@ -1,4 +1,3 @@
-use borrow.Author.Rules.{rules}
 use Rattle.exprs.proofs.RoleLaws.{scrutinee, case-last, case-answer, case-plain, case-condition}
 use Rattle.exprs.proofs.case.case_role.Goals as goal
 

@@ -1,5 +1,4 @@
 use Rattle.exprs.proofs.States.{case-large, case-closing, case-typed, case-too-large}
-use borrow.Author.Rules.{rules}
 use Rattle.exprs.proofs.case.end_case.Goals as goal
 
 pub returns-then-st-eq1 : goal.returns-then-st-eq1

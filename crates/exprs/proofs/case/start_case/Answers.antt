@@ -1,5 +1,4 @@
 use Rattle.exprs.proofs.StateLaws.{arms-is}
-use borrow.Author.Rules.{rules}
 use Rattle.exprs.proofs.case.start_case.Goals as goal
 
 pub returns : goal.returns

@@ -1,5 +1,4 @@
 use Rattle.exprs.proofs.StateLaws.{last-new}
-use borrow.Author.Rules.{rules}
 use Rattle.exprs.proofs.comprehension.comprehension_child.Goals as goal
 
 pub returns : goal.returns

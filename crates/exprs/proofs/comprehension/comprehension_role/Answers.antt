@@ -1,5 +1,5 @@
 use mathlib.Core.Path.{sym}
-use mathlib.Core.Logic.{inl, inr}
+use mathlib.Core.Logic.{inr}
 use Rattle.exprs.proofs.RoleLaws.{around-role, around-condition}
 use Rattle.exprs.proofs.comprehension.comprehension_role.Goals as goal
 

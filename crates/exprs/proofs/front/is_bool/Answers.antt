@@ -1,6 +1,5 @@
 use Rattle.exprs.proofs.Fronts.{settle-bool}
 use native.Mathlib.Omega.{arith}
-use borrow.Author.Rules.{rules}
 use Rattle.exprs.proofs.front.is_bool.Goals as goal
 
 pub returns : goal.returns

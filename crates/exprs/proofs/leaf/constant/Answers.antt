@@ -1,4 +1,3 @@
-use borrow.Author.Rules.{rules}
 use Rattle.exprs.proofs.LeafLaws.{constant-map, constant-letter}
 use Rattle.exprs.proofs.leaf.constant.Goals as goal
 

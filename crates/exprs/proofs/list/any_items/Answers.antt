@@ -1,5 +1,4 @@
 use Rattle.exprs.proofs.ItemLaws.{any-kept}
-use borrow.Author.Rules.{rules}
 use Rattle.exprs.proofs.list.any_items.Goals as goal
 
 pub returns : goal.returns

@@ -1,5 +1,4 @@
-use Rattle.exprs.proofs.ItemLaws.{list-from, list_inside, fitted-on, fitted-large}
-use borrow.Author.Rules.{rules}
+use Rattle.exprs.proofs.ItemLaws.{list-from, fitted-on}
 use Rattle.exprs.proofs.list.fitted.Goals as goal
 
 pub fits-requires : goal.fits-requires

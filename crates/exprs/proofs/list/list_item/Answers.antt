@@ -1,7 +1,6 @@
 use mathlib.Core.Logic.{inl}
 use native.Mathlib.Omega.{arith}
 use Rattle.exprs.proofs.ItemLaws.{copied-list, first-list, first-kept, running, ready, stood, headed, item-done, item-apart, item-large}
-use borrow.Author.Rules.{rules}
 use Rattle.exprs.proofs.list.list_item.Goals as goal
 
 pub fitted-requires : goal.fitted-requires

@@ -1,5 +1,4 @@
 use Rattle.exprs.proofs.StateLaws.{list_put}
-use borrow.Author.Rules.{rules}
 use Rattle.exprs.proofs.list.start_list.Goals as goal
 
 pub returns : goal.returns

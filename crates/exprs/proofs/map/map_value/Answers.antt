@@ -1,5 +1,4 @@
 use Rattle.exprs.proofs.ChildLaws.{entry_in, entry-on, entry-large}
-use borrow.Author.Rules.{rules}
 use Rattle.exprs.proofs.map.map_value.Goals as goal
 
 pub put_entry-requires : goal.put_entry-requires

@@ -1,5 +1,4 @@
 use Rattle.exprs.proofs.StateLaws.{map-put}
-use borrow.Author.Rules.{rules}
 use Rattle.exprs.proofs.map.start_map.Goals as goal
 
 pub returns : goal.returns

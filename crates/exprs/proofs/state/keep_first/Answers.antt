@@ -1,6 +1,5 @@
 use Rattle.exprs.proofs.StateLaws.{first-stays, first-new}
 use native.Mathlib.Omega.{arith}
-use borrow.Author.Rules.{rules}
 use Rattle.exprs.proofs.state.keep_first.Goals as goal
 
 pub returns-then-st-gt0 : goal.returns-then-st-gt0

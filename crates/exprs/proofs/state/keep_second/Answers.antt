@@ -1,5 +1,4 @@
 use Rattle.exprs.proofs.StateLaws.{second-new}
-use borrow.Author.Rules.{rules}
 use Rattle.exprs.proofs.state.keep_second.Goals as goal
 
 pub returns : goal.returns

@@ -1,4 +1,3 @@
-use borrow.Author.Rules.{rules}
 use Rattle.exprs.proofs.StateLaws.{two-second, two-first}
 use Rattle.exprs.proofs.state.keep_two.Goals as goal
 

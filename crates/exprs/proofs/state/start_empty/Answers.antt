@@ -1,5 +1,4 @@
 use Rattle.exprs.proofs.StateLaws.{empty-is}
-use borrow.Author.Rules.{rules}
 use Rattle.exprs.proofs.state.start_empty.Goals as goal
 
 pub returns : goal.returns

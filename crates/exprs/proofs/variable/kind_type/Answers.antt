@@ -1,5 +1,4 @@
 use borrow.Author.Rules.{rules}
-use native.Mathlib.Omega.{arith}
 use Rattle.exprs.proofs.Fronts.{var-node, var-relationship, var-path, var-other}
 use borrow.Author.Rules.{rules}
 use Rattle.exprs.proofs.variable.kind_type.Goals as goal

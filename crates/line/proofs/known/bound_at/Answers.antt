@@ -1,10 +1,10 @@
 use mathlib.Core.Path.{refl}
 use native.Mathlib.Omega.{arith}
-use Rattle.line.proofs.KnownLaws.{binding-digits, binding-small, binding-says}
+use Rattle.line.proofs.KnownLaws.{binding_digits, binding-small, binding-says}
 use Rattle.line.proofs.known.bound_at.Goals as goal
 
 pub known_digits-g-requires : goal.known_digits-g-requires
-known_digits-g-requires c = binding-digits _ _ c.requires
+known_digits-g-requires c = binding_digits _ _ c.requires
 
 pub overflow_cast-result : goal.overflow_cast-result
 overflow_cast-result c = omega (arith, binding-small _ _ c.requires _ c.known_digits-g.ensures)

@@ -1,8 +1,8 @@
-use Rattle.line.proofs.KnownFields.{counted-digits, got-counted, number-counted, spelled-name, spelled-float}
+use Rattle.line.proofs.KnownFields.{counted_digits, got-counted, number-counted, spelled-name, spelled-float}
 use Rattle.line.proofs.known.known_field.Goals as goal
 
 pub known_digits-requires : goal.known_digits-requires
-known_digits-requires c = counted-digits _ _ _ _ c.requires (number-counted _ _ _ _ c.if-shape-lt-OPTIONAL.true c.requires)
+known_digits-requires c = counted_digits _ _ _ _ c.requires (number-counted _ _ _ _ c.if-shape-lt-OPTIONAL.true c.requires)
 
 pub returns-then-shape-lt-OPTIONAL : goal.returns-then-shape-lt-OPTIONAL
 returns-then-shape-lt-OPTIONAL c = got-counted _ _ _ _ c.requires (number-counted _ _ _ _ c.if-shape-lt-OPTIONAL.true c.requires) _ c.known_digits.ensures

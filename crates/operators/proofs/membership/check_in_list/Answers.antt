@@ -3,7 +3,6 @@ use Rattle.operators.proofs.Meets.{two-inside, two-kinds}
 use mathlib.Core.Logic.{inr}
 use mathlib.Core.Path.{refl}
 use native.Mathlib.Omega.{arith}
-use borrow.Author.Rules.{rules}
 use Rattle.operators.proofs.membership.check_in_list.Goals as goal
 
 pub bounds-work-k : goal.bounds-work-k

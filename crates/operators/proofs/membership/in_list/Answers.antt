@@ -1,5 +1,4 @@
 use Rattle.operators.proofs.InLaws.{list-line, list-first, list-ready, list-kinds, list_done, list-apart, list-large}
-use borrow.Author.Rules.{rules}
 use Rattle.operators.proofs.membership.in_list.Goals as goal
 
 pub element-element-requires : goal.element-element-requires

@@ -1,6 +1,5 @@
 use Rattle.operators.proofs.InLaws.{parted-first, parted-second, parted-fault}
 use mathlib.Core.Path.{sym, ◌∙◌}
-use borrow.Author.Rules.{rules}
 use Rattle.operators.proofs.membership.mismatch_in.Goals as goal
 
 pub returns-then-is_open : goal.returns-then-is_open

@@ -2,7 +2,6 @@ use Rattle.operators.proofs.Meets.{done-inside}
 use Rattle.operators.proofs.OpLaws.{pair-ready, computed-done, computed-apart, computed-large}
 use mathlib.Core.Logic.{inl}
 use native.Mathlib.Omega.{arith}
-use borrow.Author.Rules.{rules}
 use Rattle.operators.proofs.operators.arithmetic.Goals as goal
 
 pub unify-requires : goal.unify-requires

@@ -1,5 +1,4 @@
 use Rattle.operators.proofs.Meets.{two_ready, compared-done, compared-apart, compared-large}
-use borrow.Author.Rules.{rules}
 use Rattle.operators.proofs.operators.comparison.Goals as goal
 
 pub unify-requires : goal.unify-requires

@@ -1,7 +1,6 @@
 use Rattle.operators.proofs.OpLaws.{op-key, op-concat, binary-arithmetic, binary-equality, binary-comparison, binary-boolean, binary-string, binary-concat}
 use Rattle.operators.proofs.Meets.{two-inside, two-kinds}
 use native.Mathlib.Omega.{arith}
-use borrow.Author.Rules.{rules}
 use Rattle.operators.proofs.operators.infer_binop.Goals as goal
 
 pub bounds-work-k : goal.bounds-work-k

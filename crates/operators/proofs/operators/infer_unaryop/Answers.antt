@@ -1,6 +1,5 @@
 use Rattle.operators.proofs.OpLaws.{one-kind, unary-minus, unary-not}
 use native.Mathlib.Omega.{arith}
-use borrow.Author.Rules.{rules}
 use Rattle.operators.proofs.operators.infer_unaryop.Goals as goal
 
 pub require_numeric-c-requires : goal.require_numeric-c-requires

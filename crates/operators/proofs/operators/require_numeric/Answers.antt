@@ -1,6 +1,4 @@
-use borrow.Author.Rules.{rules}
-use mathlib.Core.Path.{refl, sym, ◌∙◌}
-use mathlib.Core.Logic.{inl}
+use mathlib.Core.Path.{sym, ◌∙◌}
 use Rattle.semantics.specs.Walk.{a_number, fault_of}
 use Rattle.report.specs.Report.{code_fault}
 use Rattle.operators.proofs.RequireLaws.{numeric-same, numeric-apart, adds-met, adds-unmet}

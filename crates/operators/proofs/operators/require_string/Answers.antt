@@ -1,6 +1,4 @@
-use borrow.Author.Rules.{rules}
-use mathlib.Core.Path.{refl, sym, ◌∙◌}
-use mathlib.Core.Logic.{inl, inr}
+use mathlib.Core.Path.{sym, ◌∙◌}
 use Rattle.semantics.specs.Walk.{a_string, fault_of}
 use Rattle.report.specs.Report.{code_fault}
 use Rattle.operators.proofs.RequireLaws.{meets-string, met-open, met-kind, unmet, adds-met, adds-unmet}

@@ -1,6 +1,5 @@
 use Rattle.operators.proofs.OpLaws.{asked-room, asked-two}
 use Rattle.semantics.specs.Walk.{a_bool}
-use borrow.Author.Rules.{rules}
 use Rattle.operators.proofs.operators.two_bools.Goals as goal
 
 pub require_bool-requires : goal.require_bool-requires

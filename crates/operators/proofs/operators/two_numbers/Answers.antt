@@ -1,6 +1,5 @@
 use Rattle.operators.proofs.OpLaws.{asked-room, asked-two}
 use Rattle.semantics.specs.Walk.{a_number}
-use borrow.Author.Rules.{rules}
 use Rattle.operators.proofs.operators.two_numbers.Goals as goal
 
 pub require_numeric-requires : goal.require_numeric-requires

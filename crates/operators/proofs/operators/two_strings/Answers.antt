@@ -1,6 +1,5 @@
 use Rattle.operators.proofs.OpLaws.{asked-room, asked-two}
 use Rattle.semantics.specs.Walk.{a_string}
-use borrow.Author.Rules.{rules}
 use Rattle.operators.proofs.operators.two_strings.Goals as goal
 
 pub require_string-requires : goal.require_string-requires

@@ -1,13 +1,12 @@
-use borrow.Author.Rules.{rules}
 use native.Mathlib.Omega.{arith}
-use Prim.Native.Nat.{ℕ, suc, ◌+◌, ◌-◌, ◌/◌, ◌%◌, ◌≤◌, ◌<◌, ◌^◌}
-use mathlib.Core.Path.{◌≡◌, sym, ap, ap₂, subst, ◌∙◌}
+use Prim.Native.Nat.{ℕ, ◌+◌, ◌-◌, ◌/◌, ◌%◌, ◌≤◌, ◌<◌, ◌^◌}
+use mathlib.Core.Path.{sym, ap, ap₂, subst, ◌∙◌}
 use lib.ListN.{length, set}
-use lib.Seq.{sets, length-sets}
-use Rattle.semantics.specs.Bytes.{Bytes, shown}
+use lib.Seq.{sets}
+use Rattle.semantics.specs.Bytes.{Bytes}
 use Rattle.text.specs.Text.{tens}
 use Rattle.text.proofs.Words.{shown-short}
-use Rattle.text.proofs.Tens.{tens-length, shown-first, next_power, tens-step, rest-low, one-digit, tens-end}
+use Rattle.text.proofs.Tens.{tens-length, shown-first, tens-step, rest-low, tens-end}
 use Rattle.text.proofs.decimals.append_decimal.Goals as goal
 
 pub loop-i-init : goal.loop-i-init

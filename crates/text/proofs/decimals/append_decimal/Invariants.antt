@@ -1,13 +1,9 @@
-use borrow.Author.Rules.{rules}
-use native.Mathlib.Omega.{arith}
-use Prim.Native.Nat.{ℕ, suc, ◌+◌, ◌-◌, ◌/◌, ◌%◌, ◌≤◌, ◌<◌, ◌^◌}
-use mathlib.Core.Path.{◌≡◌, sym, ap, ap₂, subst, ◌∙◌}
-use lib.ListN.{length, set}
-use lib.Seq.{sets, length-sets}
-use Rattle.semantics.specs.Bytes.{Bytes, shown}
+use Prim.Native.Nat.{suc, ◌+◌, ◌≤◌, ◌<◌, ◌^◌}
+use mathlib.Core.Path.{◌≡◌}
+use lib.ListN.{length}
+use lib.Seq.{sets}
+use Rattle.semantics.specs.Bytes.{shown}
 use Rattle.text.specs.Text.{tens}
-use Rattle.text.proofs.Words.{shown-short}
-use Rattle.text.proofs.Tens.{tens-length, shown-first, next_power, tens-step, rest-low, one-digit, tens-end}
 use Rattle.text.proofs.decimals.append_decimal.Given as goal
 
 abbrev pub invariant-loop-i : goal.invariant-loop-i

@@ -1,5 +1,5 @@
 use native.Mathlib.Omega.{arith}
-use Rattle.unify.proofs.FlatLaws.{first-operand, second-operand, two-nodes, flat-first, flat-second, flat-null-first, flat-null-second, flat-nodes, flat-unknown, flat-number, flat-relationship, flat-apart}
+use Rattle.unify.proofs.FlatLaws.{first-operand, second-operand, two_nodes, flat-first, flat-second, flat-null-first, flat-null-second, flat-nodes, flat-unknown, flat-number, flat-relationship, flat-apart}
 use Rattle.unify.proofs.flat.unify_flat.Goals as goal
 
 pub copied-requires : goal.copied-requires
@@ -15,7 +15,7 @@ pub unify_null-requires-in-4 : goal.unify_null-requires-in-4
 unify_null-requires-in-4 c = first-operand c.requires
 
 pub unify_label_sets-requires : goal.unify_label_sets-requires
-unify_label_sets-requires c = two-nodes c.requires c.in-8.is
+unify_label_sets-requires c = two_nodes c.requires c.in-8.is
 
 pub returns-in-0 : goal.returns-in-0
 returns-in-0 c = flat-first c.in-0.is c.copied.ensures
