@@ -1,4 +1,4 @@
-// The calls as C has them.
+// The calls as C has them, for Rattle: crates/cyrs_c exports them.
 #![tactic(auto)]
 
 ghost use Rattle.std.specs.Prelude.{◌≡◌, ◌+◌, ◌≤◌, length};
@@ -11,8 +11,7 @@ ghost use Rattle.stores.specs.Catalogue.{store_call, entering, releasing, lookin
 ghost use Rattle.catalogue.specs.Stands.{kept_as, looked_as};
 
 // Unifies two type lines: the number, and its two numbers behind the references.
-#[unsafe(no_mangle)]
-pub extern "C" fn cyrs_unify(
+pub fn cyrs_unify(
     a: &[u8],
     b: &[u8],
     work: &mut [u8],
@@ -30,13 +29,7 @@ pub extern "C" fn cyrs_unify(
 }
 
 // Types a sheet: the number, and its place or the report's length behind the reference.
-#[unsafe(no_mangle)]
-pub extern "C" fn cyrs_infer_types(
-    sheet: &[u8],
-    work: &mut [u8],
-    out: &mut [u8],
-    first: &mut u64,
-) -> u32
+pub fn cyrs_infer_types(sheet: &[u8], work: &mut [u8], out: &mut [u8], first: &mut u64) -> u32
     ensures { settled_by result first.new 0 work.new out.new
         ≡ sheet_call sheet.now work.old out.old }
 {
@@ -46,8 +39,7 @@ pub extern "C" fn cyrs_infer_types(
 }
 
 // Whether a sheet can be read, with nothing typed: the number, and its line behind the reference.
-#[unsafe(no_mangle)]
-pub extern "C" fn cyrs_check_sheet(sheet: &[u8], place: &mut u64) -> u32
+pub fn cyrs_check_sheet(sheet: &[u8], place: &mut u64) -> u32
     ensures { checked_by result place.new ≡ check_call sheet.now }
 {
     let c = typing::check_sheet(sheet);
@@ -56,13 +48,7 @@ pub extern "C" fn cyrs_check_sheet(sheet: &[u8], place: &mut u64) -> u32
 }
 
 // Makes an old type line regular: the number, and the regular line's length behind the reference.
-#[unsafe(no_mangle)]
-pub extern "C" fn cyrs_regular_line(
-    line: &[u8],
-    work: &mut [u8],
-    out: &mut [u8],
-    first: &mut u64,
-) -> u32
+pub fn cyrs_regular_line(line: &[u8], work: &mut [u8], out: &mut [u8], first: &mut u64) -> u32
     ensures { settled_by result first.new 0 work.new out.new
         ≡ regular_call line.now work.old out.old }
 {
@@ -72,13 +58,7 @@ pub extern "C" fn cyrs_regular_line(
 }
 
 // Enters a type into a store: the number, and the type's number and its uses behind the references.
-#[unsafe(no_mangle)]
-pub extern "C" fn cyrs_enter_type(
-    store: &mut [u8],
-    line: &[u8],
-    first: &mut u64,
-    second: &mut u64,
-) -> u32
+pub fn cyrs_enter_type(store: &mut [u8], line: &[u8], first: &mut u64, second: &mut u64) -> u32
     ensures { kept_as result first.new second.new store.new
         ≡ store_call store.old (entering line.now) }
 {
@@ -89,8 +69,7 @@ pub extern "C" fn cyrs_enter_type(
 }
 
 // Releases a use of a type: the number, and the uses left behind the reference.
-#[unsafe(no_mangle)]
-pub extern "C" fn cyrs_release_type(store: &mut [u8], number: u64, first: &mut u64) -> u32
+pub fn cyrs_release_type(store: &mut [u8], number: u64, first: &mut u64) -> u32
     ensures { kept_as result first.new 0 store.new ≡ store_call store.old (releasing number) }
 {
     let c = catalogue::release(store, number);
@@ -99,8 +78,7 @@ pub extern "C" fn cyrs_release_type(store: &mut [u8], number: u64, first: &mut u
 }
 
 // Looks a type up: the number, and the place and the length of its line in the store and its uses behind the references.
-#[unsafe(no_mangle)]
-pub extern "C" fn cyrs_look_up_type(
+pub fn cyrs_look_up_type(
     store: &[u8],
     number: u64,
     at: &mut u64,

@@ -1,0 +1,102 @@
+// The exports: the calls of `cyrs` under the same names and clauses, for C.
+#![tactic(auto)]
+
+ghost use Rattle.std.specs.Prelude.{◌≡◌, ◌+◌, ◌≤◌, length};
+ghost use Rattle.std.proofs.Math.Seq.{slice};
+ghost use Rattle.semantics.specs.Calls.{sheet_call, unify_call};
+ghost use Rattle.old_lines.specs.Old.{regular_call};
+ghost use Rattle.unifying.specs.Call.{settled_by};
+ghost use Rattle.typing.specs.Checking.{checked_by, check_call};
+ghost use Rattle.stores.specs.Catalogue.{store_call, entering, releasing, looking_up, place_of};
+ghost use Rattle.catalogue.specs.Stands.{kept_as, looked_as};
+
+// Unifies two type lines: the number, and its two numbers behind the references.
+#[unsafe(no_mangle)]
+pub extern "C" fn cyrs_unify(
+    a: &[u8],
+    b: &[u8],
+    work: &mut [u8],
+    out: &mut [u8],
+    first: &mut u64,
+    second: &mut u64,
+) -> u32
+    ensures { settled_by result first.new second.new work.new out.new
+        ≡ unify_call a.now b.now work.old out.old }
+{
+    cyrs::cyrs_unify(a, b, work, out, first, second)
+}
+
+// Types a sheet: the number, and its place or the report's length behind the reference.
+#[unsafe(no_mangle)]
+pub extern "C" fn cyrs_infer_types(
+    sheet: &[u8],
+    work: &mut [u8],
+    out: &mut [u8],
+    first: &mut u64,
+) -> u32
+    ensures { settled_by result first.new 0 work.new out.new
+        ≡ sheet_call sheet.now work.old out.old }
+{
+    cyrs::cyrs_infer_types(sheet, work, out, first)
+}
+
+// Whether a sheet can be read, with nothing typed: the number, and its line behind the reference.
+#[unsafe(no_mangle)]
+pub extern "C" fn cyrs_check_sheet(sheet: &[u8], place: &mut u64) -> u32
+    ensures { checked_by result place.new ≡ check_call sheet.now }
+{
+    cyrs::cyrs_check_sheet(sheet, place)
+}
+
+// Makes an old type line regular: the number, and the regular line's length behind the reference.
+#[unsafe(no_mangle)]
+pub extern "C" fn cyrs_regular_line(
+    line: &[u8],
+    work: &mut [u8],
+    out: &mut [u8],
+    first: &mut u64,
+) -> u32
+    ensures { settled_by result first.new 0 work.new out.new
+        ≡ regular_call line.now work.old out.old }
+{
+    cyrs::cyrs_regular_line(line, work, out, first)
+}
+
+// Enters a type into a store: the number, and the type's number and its uses behind the references.
+#[unsafe(no_mangle)]
+pub extern "C" fn cyrs_enter_type(
+    store: &mut [u8],
+    line: &[u8],
+    first: &mut u64,
+    second: &mut u64,
+) -> u32
+    ensures { kept_as result first.new second.new store.new
+        ≡ store_call store.old (entering line.now) }
+{
+    cyrs::cyrs_enter_type(store, line, first, second)
+}
+
+// Releases a use of a type: the number, and the uses left behind the reference.
+#[unsafe(no_mangle)]
+pub extern "C" fn cyrs_release_type(store: &mut [u8], number: u64, first: &mut u64) -> u32
+    ensures { kept_as result first.new 0 store.new ≡ store_call store.old (releasing number) }
+{
+    cyrs::cyrs_release_type(store, number, first)
+}
+
+// Looks a type up: the number, and the place and the length of its line in the store and its uses behind the references.
+#[unsafe(no_mangle)]
+pub extern "C" fn cyrs_look_up_type(
+    store: &[u8],
+    number: u64,
+    at: &mut u64,
+    len: &mut u64,
+    uses: &mut u64,
+) -> u32
+    ensures { (looked_as result uses.new (slice at.new (at.new + len.new) store.now) store.now
+        ≡ store_call store.now (looking_up number))
+        × (at.new ≡ place_of store.now number)
+        × (at.new + len.new ≤ length store.now) }
+{
+    cyrs::cyrs_look_up_type(store, number, at, len, uses)
+}
