@@ -22,8 +22,8 @@ same NESTING_LIMIT NESTING_LIMIT semantics/src/lib.rt
 same OLD_LIMIT old_limit old_lines/specs/Old.antt
 same STORE_SIZE STORE_SIZE catalogue/src/layout.rt
 same STORE_ROOM room_limit stores/specs/Catalogue.antt
-same STORE_NUMBERS NUMBER_LIMIT catalogue/src/lib.rt
-same STORE_USES USES_LIMIT catalogue/src/lib.rt
+same STORE_NUMBERS number_limit stores/specs/Catalogue.antt
+same STORE_USES uses_limit stores/specs/Catalogue.antt
 numbers() { sort -nu | tr '\n' ' '; }
 told=$(sed -n '/^## Refusals/,/^## A /s/^| \([0-9][0-9]*\) |.*/\1/p' README.md | numbers)
 named=$(sed -n 's/^ *CYRS_REFUSED_[A-Z_]* = \([0-9]*\),\{0,1\}$/\1/p' include/cyrs.h | numbers)

@@ -6,7 +6,7 @@ usage: tools/no_division.py CRATE..     after rt has built the libraries: they s
 No function that prints a decimal divides, nor any that it calls. Of the libraries it looks at the compiler's MIR, which rt keeps with
 each: at every function of `report`, which makes all lines, at every function that calls `append_decimal`, and from there on at every
 function called. Of CRATE, a program or the static library, it reads the source, since no MIR is kept of it: nothing in it divides or
-prints by a macro of the library, whose numbers are printed by division; and of its functions that name `report` or `append_decimal`,
+prints by a macro of the library, whose numbers are printed by division; and of its functions that name `report`, `append_decimal` or a `Writer`,
 what they call is looked at too.
 
 Exit status 0: no division; 1: a division, or nothing that prints; 2: bad usage, or a library is not built.
@@ -55,11 +55,11 @@ class Looking:
             self.kit[library] = {f: b["body"] for f, b in json.loads(file.read_text(encoding="utf-8"))}
         return self.code.get(name) or self.kit.get(library, {}).get(name)
 
-    def visit(self, name):
-        """Looks at a function and all that it calls."""
-        if name in self.seen:
+    def visit(self, name, given=()):
+        """Looks at a function and all that it calls; `given` are the functions that its caller passes for its bounds."""
+        if (name, given) in self.seen:
             return
-        self.seen.add(name)
+        self.seen.add((name, given))
         body = self.body(name)
         if body is None:
             self.bad.append(f"{name} has no MIR here: it is not looked at")
@@ -67,10 +67,14 @@ class Looking:
         words = list(words_of(body))
         if any(word in ("Div", "Rem") for word, _ in words):
             self.bad.append(f"{name} divides, and prints a decimal or is called to")
-        if any(word in ("Method", "CallV") for word, _ in words):
-            self.bad.append(f"{name} calls what its caller or a type decides: that is not looked at")
-        for callee in calls(words):
-            self.visit(callee)
+        for word, under in words:
+            passed = given_at(under[0], given) if word == "Method" else None
+            if passed:
+                self.visit(passed)
+            elif word in ("Method", "CallV"):
+                self.bad.append(f"{name} calls what its caller or a type decides: that is not looked at")
+        for callee, passed in calls_with(words):
+            self.visit(callee, tuple(given_at(bound, given) for bound in passed))
 
 
 def words_of(tree):
@@ -86,6 +90,21 @@ def words_of(tree):
 
 def calls(words):
     return [under[0] for word, under in words if word == "Fn"]
+
+
+def calls_with(words):
+    """Each function called, with what is passed for its bounds."""
+    return [(under[0], under[1].get("dicts", []) if len(under) > 1 else []) for word, under in words if word == "Fn"]
+
+
+def given_at(bound, given):
+    """The function that a bound stands for: one that is passed by its name, or what the caller passed on; None: neither."""
+    word, under = next(iter(bound.items())) if isinstance(bound, dict) else (None, None)
+    if word == "Given":
+        return given[under] if under < len(given) else None
+    if word == "Impl" and (m := re.fullmatch(r"\w+::(\S+)\+Fn(?:Once|Mut)?", under[0])):
+        return m[1].replace("++", "::")
+    return None
 
 
 def read_source(crate):
@@ -110,7 +129,7 @@ def printing(crate, texts, code):
     for name in code:
         parts = name.split("::")
         short.setdefault((parts[0], parts[-1]), []).append(name)
-    prints = {f for f, text in functions.items() if re.search(r"\breport::|\bappend_decimal\b", text)}
+    prints = {f for f, text in functions.items() if re.search(r"\breport::|\bappend_decimal\b|\bWriter\b", text)}
     while True:
         more = {g for f in prints for g in re.findall(r"\b(\w+)\(", functions[f]) if g in functions} - prints
         if not more:
@@ -126,7 +145,7 @@ def main(crates):
     if not crates:
         stop("usage: tools/no_division.py CRATE..")
     code = ours()
-    printers = {name for name, body in code.items() if name.startswith("report::") or any(f.endswith("::append_decimal") for f in calls(words_of(body)))}
+    printers = {name for name, body in code.items() if name.startswith("report::") or any(f.endswith(("::append_decimal", "::Writer::decimal")) for f in calls(words_of(body)))}
     status = 0
     for crate in crates:
         called, bad = printing(crate, read_source(crate), code)

@@ -1,17 +1,18 @@
--- Laws of the seven rows, of the search by name, of the classes of types, and of the return type at the front. Assumes nothing.
-use Prim.Native.Nat.{ℕ, zero, suc, ◌+◌, ◌*◌, ◌≤◌, ◌<◌}
+-- Laws of the functions, of the search by name, of the shapes, and of the return type at the front. Assumes nothing.
+use Prim.Native.Nat.{ℕ, ◌+◌, ◌≤◌, ◌<◌}
 use native.Mathlib.Omega.{arith}
 use mathlib.Core.Path.{◌≡◌, refl, sym, ap, ◌∙◌}
 use mathlib.Core.List.{List, [], ◌∷◌, map}
 use mathlib.Core.Option.{some}
-use mathlib.Core.Bool.{Bool, true, false}
+use mathlib.Core.Bool.{Bool, true, false, false≢true}
 use mathlib.Core.Logic.{◌⊎◌, inl, inr}
 use lib.Dec.{eqb}
-use lib.ListN.{length, take, drop, get_or, get_or-eq_default}
+use Rattle.std.specs.List.{list_any, find}
+use lib.ListN.{length, take, drop, get_or}
 use lib.Seq.{slice, sets, length-sets, length-slice}
 use Rattle.semantics.specs.Bytes.{Bytes, text, same, unhex, hex}
 use Rattle.semantics.specs.Ty.{Base, t_any, t_null, t_bool, t_int, t_float, t_num, t_string, t_date, t_datetime, t_path, t_unknown, Ty, base, t_list, t_map, t_node, t_relationship, t_union, letter, line_to, line}
-use Rattle.semantics.specs.Builtins.{ArgShape, s_any, s_list, s_string, s_list_or_string, s_graph_entity, s_map, s_graph_entity_or_map, fixed, list_element, list_self, signature, Builtin, builtin_id, builtin_size, builtin_head, builtin_tail, builtin_last, builtin_keys, builtin_values, builtins, lower, lookup, lookup_in, accepts, accepts_base, describe, element_of, list_or, resolve_return}
+use Rattle.semantics.specs.Builtins.{ArgShape, s_any, s_list, s_string, s_list_or_string, s_graph_entity, s_map, s_graph_entity_or_map, list_element, list_self, signature, Builtin, builtin_id, builtin_size, builtin_head, builtin_tail, builtin_last, builtin_keys, builtin_values, lower, lookup, lookup_in, accepts, accepts_base, takes_all, describe, element_of, list_or, resolve_return}
 use Rattle.semantics.proofs.Named.{Digits}
 use Rattle.text.specs.Text.{digit_of}
 use Rattle.text.proofs.Laws.{slice-sets, drop-slice}
@@ -19,26 +20,13 @@ use Rattle.text.proofs.Words.{values-hex, values-unhex}
 use Rattle.ty.specs.Read.{kind_of, ListLine}
 use Rattle.ty.specs.Parts.{TypeAt}
 use Rattle.ty.proofs.KindLaws.{kind_at, two_at}
-use Rattle.builtins.specs.declared.Row.{Row}
-use Rattle.builtins.specs.Rows.{shape_of, return_of, builtin_of, row_of, RowFor, class_of, accepts_class, FirstAt, Returned}
+use Rattle.builtins.specs.declared.shapes.ReturnShape.TheVariants.{ListElement, ListSelf}
+use Rattle.builtins.specs.declared.Builtin.{Builtin as Code}
+use Rattle.builtins.specs.declared.shapes.FixedTy.{FixedTy}
+use Rattle.builtins.specs.declared.shapes.FixedTy.TheVariants.{Int, ListString, ListAny}
+use Rattle.builtins.specs.Rows.{return_of, fixed_of, builtin_of, found_of, FirstAt, Returned}
 
--- ## The seven rows
-
--- what holds of seven numbers
-pub seven : (P : ℕ → Type 0) → P 0 → P 1 → P 2 → P 3 → P 4 → P 5 → P 6 → (i : ℕ) → i < 7 → P i
-seven P a b c d e f g zero h = a
-seven P a b c d e f g (suc zero) h = b
-seven P a b c d e f g (suc (suc zero)) h = c
-seven P a b c d e f g (suc (suc (suc zero))) h = d
-seven P a b c d e f g (suc (suc (suc (suc zero)))) h = e
-seven P a b c d e f g (suc (suc (suc (suc (suc zero))))) h = f
-seven P a b c d e f g (suc (suc (suc (suc (suc (suc zero)))))) h = g
-seven P a b c d e f g (suc (suc (suc (suc (suc (suc (suc i))))))) h = absurd (omega arith)
-
--- a row of the table at its number
-pub row-of : (P : ℕ → Row → Type 0) {a b c d e f g : Row} (z : Row) → P 0 a → P 1 b → P 2 c → P 3 d → P 4 e → P 5 f → P 6 g → (i : ℕ) → i < 7
-    → P i (get_or (a ∷ b ∷ c ∷ d ∷ e ∷ f ∷ g ∷ []) i z)
-row-of P {a} {b} {c} {d} {e} {f} {g} z pa pb pc pd pe pf pg i h = seven (λ k. P k (get_or (a ∷ b ∷ c ∷ d ∷ e ∷ f ∷ g ∷ []) k z)) pa pb pc pd pe pf pg i h
+-- ## Names
 
 pub name-short : (b : Builtin) → length (signature b).name ≤ 6
 unfolding signature text
@@ -49,25 +37,18 @@ lower-name : (b : Builtin) → map lower (signature b).name ≡ (signature b).na
 unfolding signature text
 lower-name b = elim b as (λ k. map lower (signature k).name ≡ (signature k).name) [ builtin_id ↦ refl | builtin_size ↦ refl | builtin_head ↦ refl | builtin_tail ↦ refl | builtin_last ↦ refl | builtin_keys ↦ refl | builtin_values ↦ refl ]
 
--- the test of a turn
-pub row_same : (b : Builtin) (r : Row) (s : Bytes) (x y : Bool) → RowFor b r → x ≡ same s (map lower (take r.len r.name)) → x ≡ y → same s (signature b).name ≡ y
-row_same b r s x y f e q = ap (same s) (sym (lower-name b) ∙ ap (map lower) (sym f.named)) ∙ sym e ∙ q
+-- the first of a list of functions that has the name s
+unfoldable pub of-name : Bytes → Code → Bool
+of-name s b = same s (map lower (signature (builtin_of b)).name)
 
-pub found : (i : ℕ) (s : Bytes) → i < 7 → same s (signature (builtin_of i)).name ≡ true → row_of (lookup_in s (drop i builtins)) ≡ i
-unfolding lookup_in row_of builtin_of
-found i s h =
-    seven (λ k. same s (signature (builtin_of k)).name ≡ true → row_of (lookup_in s (drop k builtins)) ≡ k)
-    (λ e. rw (e, lookup_in)) (λ e. rw (e, lookup_in)) (λ e. rw (e, lookup_in)) (λ e. rw (e, lookup_in)) (λ e. rw (e, lookup_in)) (λ e. rw (e, lookup_in)) (λ e. rw (e, lookup_in)) i h
-
-pub passed : (i : ℕ) (s : Bytes) → i < 7 → same s (signature (builtin_of i)).name ≡ false → lookup_in s (drop i builtins) ≡ lookup_in s (drop (i + 1) builtins)
-unfolding lookup_in builtin_of
-passed i s h =
-    seven (λ k. same s (signature (builtin_of k)).name ≡ false → lookup_in s (drop k builtins) ≡ lookup_in s (drop (k + 1) builtins))
-    (λ e. rw (e, lookup_in)) (λ e. rw (e, lookup_in)) (λ e. rw (e, lookup_in)) (λ e. rw (e, lookup_in)) (λ e. rw (e, lookup_in)) (λ e. rw (e, lookup_in)) (λ e. rw (e, lookup_in)) i h
-
-pub unfound : (i : ℕ) (s : Bytes) → i ≡ 7 → row_of (lookup_in s (drop i builtins)) ≡ 7
-unfolding lookup_in row_of
-unfound i s e = rw e
+pub found-first : (s : Bytes) (bs : List Code) → found_of (find (of-name s) bs) ≡ lookup_in s (map builtin_of bs)
+unfolding lookup_in of-name
+found-first s [] = refl
+found-first s (b ∷ bs) = go (same s (signature (builtin_of b)).name) refl (found-first s bs)
+  where
+    go : (x : Bool) → same s (signature (builtin_of b)).name ≡ x → found_of (find (of-name s) bs) ≡ lookup_in s (map builtin_of bs) → found_of (find (of-name s) (b ∷ bs)) ≡ lookup_in s (builtin_of b ∷ map builtin_of bs)
+    go true e h = rw (lower-name (builtin_of b), e, lookup_in)
+    go false e h = rw (lower-name (builtin_of b), e, lookup_in) h
 
 -- the same function by the digits that a text stands for
 pub lookup-hex : (ds : Bytes) → Digits ds → lookup (map digit_of (map hex ds)) ≡ lookup ds
@@ -76,65 +57,64 @@ lookup-hex ds h = ap lookup (values-hex ds h)
 pub lookup-unhex : (s ds : Bytes) → unhex s ≡ some ds → lookup (map digit_of s) ≡ lookup ds
 lookup-unhex s ds e = ap lookup (values-unhex s ds e)
 
-pub row-of-number : (i : ℕ) → i < 7 → row_of (some (builtin_of i)) ≡ i
-unfolding row_of builtin_of
-row-of-number = seven (λ i. row_of (some (builtin_of i)) ≡ i) refl refl refl refl refl refl refl
-
-pub number-of-row : (b : Builtin) → builtin_of (row_of (some b)) ≡ b
-unfolding row_of builtin_of
-number-of-row b = elim b as (λ k. builtin_of (row_of (some k)) ≡ k) [ builtin_id ↦ refl | builtin_size ↦ refl | builtin_head ↦ refl | builtin_tail ↦ refl | builtin_last ↦ refl | builtin_keys ↦ refl | builtin_values ↦ refl ]
-
 -- ## Shapes
 
-base-class : (s : ArgShape) (b : Base) → accepts_base s b ≡ accepts_class s (class_of (letter b))
-unfolding accepts_base accepts_class class_of letter
-base-class s b = elim b as (λ k. accepts_base s k ≡ accepts_class s (class_of (letter k))) [ t_any ↦ refl | t_null ↦ refl | t_bool ↦ refl | t_int ↦ refl | t_float ↦ refl | t_num ↦ refl | t_string ↦ refl | t_date ↦ refl | t_datetime ↦ refl | t_path ↦ refl | t_unknown ↦ refl ]
+-- the letters of the types that a shape accepts, but for the shape that takes all
+abbrev pub letters : ArgShape → List ℕ
+letters s_any = []
+letters s_list = 74 ∷ 65 ∷ 80 ∷ []
+letters s_string = 71 ∷ 65 ∷ 80 ∷ []
+letters s_list_or_string = 74 ∷ 71 ∷ 65 ∷ 80 ∷ []
+letters s_graph_entity = 76 ∷ 77 ∷ 78 ∷ 65 ∷ 80 ∷ []
+letters s_map = 75 ∷ 65 ∷ 80 ∷ []
+letters s_graph_entity_or_map = 76 ∷ 77 ∷ 75 ∷ 65 ∷ 80 ∷ []
 
-pub class-accepts : (s : ArgShape) (t : Ty) → accepts s t ≡ accepts_class s (class_of (kind_of t))
-unfolding accepts accepts_class class_of kind_of
-class-accepts s (base b) = base-class s b
-class-accepts s (t_list t) = refl
-class-accepts s (t_map fs) = refl
-class-accepts s (t_node ls) = refl
-class-accepts s (t_relationship n) = refl
-class-accepts s (t_union ts) = refl
+abbrev pub names : ArgShape → ℕ → Bool
+names s k = list_any (λ y. eqb y k) (letters s)
 
--- the table of classes
-abbrev marks : Bytes
-marks = text "1111111100100011000001101000101010010000101000110"
+-- what holds of the other six
+six : (P : ArgShape → Type 0) → P s_list → P s_string → P s_list_or_string → P s_graph_entity → P s_map → P s_graph_entity_or_map → (s : ArgShape) → takes_all s ≡ false → P s
+six P a b c d e f s_any h = absurd (false≢true (sym h))
+six P a b c d e f s_list h = a
+six P a b c d e f s_string h = b
+six P a b c d e f s_list_or_string h = c
+six P a b c d e f s_graph_entity h = d
+six P a b c d e f s_map h = e
+six P a b c d e f s_graph_entity_or_map h = f
 
-abbrev Marked : ℕ → ℕ → Type 0
-Marked s c = eqb (get_or marks (s * 7 + c) 0) 49 ≡ accepts_class (shape_of s) c
+pub accepts-named : (s : ArgShape) → takes_all s ≡ false → (t : Ty) → accepts s t ≡ names s (kind_of t)
+unfolding accepts accepts_base kind_of letter
+accepts-named s h (base t_any) = six (λ k. accepts k (base t_any) ≡ names k (kind_of (base t_any))) refl refl refl refl refl refl s h
+accepts-named s h (base t_null) = six (λ k. accepts k (base t_null) ≡ names k (kind_of (base t_null))) refl refl refl refl refl refl s h
+accepts-named s h (base t_bool) = six (λ k. accepts k (base t_bool) ≡ names k (kind_of (base t_bool))) refl refl refl refl refl refl s h
+accepts-named s h (base t_int) = six (λ k. accepts k (base t_int) ≡ names k (kind_of (base t_int))) refl refl refl refl refl refl s h
+accepts-named s h (base t_float) = six (λ k. accepts k (base t_float) ≡ names k (kind_of (base t_float))) refl refl refl refl refl refl s h
+accepts-named s h (base t_num) = six (λ k. accepts k (base t_num) ≡ names k (kind_of (base t_num))) refl refl refl refl refl refl s h
+accepts-named s h (base t_string) = six (λ k. accepts k (base t_string) ≡ names k (kind_of (base t_string))) refl refl refl refl refl refl s h
+accepts-named s h (base t_date) = six (λ k. accepts k (base t_date) ≡ names k (kind_of (base t_date))) refl refl refl refl refl refl s h
+accepts-named s h (base t_datetime) = six (λ k. accepts k (base t_datetime) ≡ names k (kind_of (base t_datetime))) refl refl refl refl refl refl s h
+accepts-named s h (base t_path) = six (λ k. accepts k (base t_path) ≡ names k (kind_of (base t_path))) refl refl refl refl refl refl s h
+accepts-named s h (base t_unknown) = six (λ k. accepts k (base t_unknown) ≡ names k (kind_of (base t_unknown))) refl refl refl refl refl refl s h
+accepts-named s h (t_list t) = six (λ k. accepts k (t_list t) ≡ names k (kind_of (t_list t))) refl refl refl refl refl refl s h
+accepts-named s h (t_map fs) = six (λ k. accepts k (t_map fs) ≡ names k (kind_of (t_map fs))) refl refl refl refl refl refl s h
+accepts-named s h (t_node ls) = six (λ k. accepts k (t_node ls) ≡ names k (kind_of (t_node ls))) refl refl refl refl refl refl s h
+accepts-named s h (t_relationship n) = six (λ k. accepts k (t_relationship n) ≡ names k (kind_of (t_relationship n))) refl refl refl refl refl refl s h
+accepts-named s h (t_union ts) = six (λ k. accepts k (t_union ts) ≡ names k (kind_of (t_union ts))) refl refl refl refl refl refl s h
 
-marked_row : (s : ℕ) → Marked s 0 → Marked s 1 → Marked s 2 → Marked s 3 → Marked s 4 → Marked s 5 → Marked s 6 → (c : ℕ) → c < 7 → Marked s c
-marked_row s = seven (λ c. Marked s c)
-
-pub marked : (s c : ℕ) → s < 7 → c < 7 → eqb (get_or (text "1111111100100011000001101000101010010000101000110") (s * 7 + c) 0) 49 ≡ accepts_class (shape_of s) c
-unfolding accepts_class shape_of text
-marked s c h k =
-    seven (λ s. Marked s c)
-    (marked_row 0 refl refl refl refl refl refl refl c k)
-    (marked_row 1 refl refl refl refl refl refl refl c k)
-    (marked_row 2 refl refl refl refl refl refl refl c k)
-    (marked_row 3 refl refl refl refl refl refl refl c k)
-    (marked_row 4 refl refl refl refl refl refl refl c k)
-    (marked_row 5 refl refl refl refl refl refl refl c k)
-    (marked_row 6 refl refl refl refl refl refl refl c k)
-    s h
-
-pub shape-last : (n : ℕ) → 6 ≤ n → shape_of n ≡ s_graph_entity_or_map
-unfolding shape_of
-shape-last n h = get_or-eq_default (s_any ∷ s_list ∷ s_string ∷ s_list_or_string ∷ s_graph_entity ∷ s_map ∷ []) s_graph_entity_or_map {n = n} h
+pub accepts_all : (t : Ty) → accepts s_any t ≡ true
+unfolding accepts accepts_base
+accepts_all (base b) = elim b as (λ k. accepts_base s_any k ≡ true) [ t_any ↦ refl | t_null ↦ refl | t_bool ↦ refl | t_int ↦ refl | t_float ↦ refl | t_num ↦ refl | t_string ↦ refl | t_date ↦ refl | t_datetime ↦ refl | t_path ↦ refl | t_unknown ↦ refl ]
+accepts_all (t_list t) = refl
+accepts_all (t_map fs) = refl
+accepts_all (t_node ls) = refl
+accepts_all (t_relationship n) = refl
+accepts_all (t_union ts) = refl
 
 pub describe-short : (s : ArgShape) → length (describe s) ≤ 26
 unfolding describe text
 describe-short s = elim s as (λ k. length (describe k) ≤ 26) [ s_any ↦ omega arith | s_list ↦ omega arith | s_string ↦ omega arith | s_list_or_string ↦ omega arith | s_graph_entity ↦ omega arith | s_map ↦ omega arith | s_graph_entity_or_map ↦ omega arith ]
 
 -- ## Returns
-
-pub return-last : (n : ℕ) → 4 ≤ n → return_of n ≡ list_self
-unfolding return_of
-return-last n h = get_or-eq_default (fixed (base t_int) ∷ fixed (t_list (base t_string)) ∷ fixed (t_list (base t_any)) ∷ list_element ∷ []) list_self {n = n} h
 
 -- a type line written at the front
 pub front-line : (s : Bytes) (t : Ty) → length (line t) ≤ length s → Returned s (sets s 0 (line t)) t (length (line t))
@@ -207,8 +187,8 @@ first-long s el n (t ∷ ts) h p e z =
     omega (arith, ap length (z u (h.is ∙ ap line w)), ap length v, length-slice 2 n s h.inside, two_at s 0 n t h)
 
 pub element-returned : (s s' el : Bytes) (n : ℕ) (ts : List Ty) → FirstAt s n ts → 0 < n → get_or s 0 0 ≡ 74 → HandsBack (take n s) el → s' ≡ sets s 0 (slice 2 (2 + length el) s)
-    → Returned s s' (resolve_return (return_of 3) ts) (length el)
-unfolding resolve_return return_of element_of
+    → Returned s s' (resolve_return (return_of ListElement) ts) (length el)
+unfolding resolve_return element_of
 element-returned s s' el n [] h p e z q = absurd (omega arith)
 element-returned s s' el n (t ∷ ts) h p e z q =
     let (u, w, v) = list-element s n t h e in
@@ -218,16 +198,22 @@ element-returned s s' el n (t ∷ ts) h p e z q =
     rw (w, x, is) (front-line s u (omega (arith, long, ap length is, h.inside)))
 
 pub element-other : (s s' : Bytes) (n r : ℕ) (ts : List Ty) → FirstAt s n ts → Unlisted s n → 4 ≤ length s → r ≡ 0 + 2 → s' ≡ sets s 0 (65 ∷ 44 ∷ [])
-    → Returned s s' (resolve_return (return_of 3) ts) r
-unfolding return_of line line_to letter
+    → Returned s s' (resolve_return (return_of ListElement) ts) r
+unfolding line line_to letter
 element-other s s' n r ts h u k e q = rw (unlisted s n ts h u).0 (front-text s (65 ∷ 44 ∷ []) s' r (base t_any) k refl (omega arith) e q)
 
-pub self-returned : (s : Bytes) (n : ℕ) (ts : List Ty) → FirstAt s n ts → 0 < n → get_or s 0 0 ≡ 74 → Returned s s (resolve_return (return_of 4) ts) n
-unfolding resolve_return return_of list_or
+pub self-returned : (s : Bytes) (n : ℕ) (ts : List Ty) → FirstAt s n ts → 0 < n → get_or s 0 0 ≡ 74 → Returned s s (resolve_return (return_of ListSelf) ts) n
+unfolding resolve_return list_or
 self-returned s n [] h p e = absurd (omega arith)
 self-returned s n (t ∷ ts) h p e = let (u, w, v) = list-element s n t h e in rw w (record { at = rw w at h; long = refl })
 
 pub self-other : (s s' : Bytes) (n r : ℕ) (ts : List Ty) → FirstAt s n ts → Unlisted s n → 4 ≤ length s → r ≡ 0 + 4 → s' ≡ sets s 0 (74 ∷ 44 ∷ 65 ∷ 44 ∷ [])
-    → Returned s s' (resolve_return (return_of 4) ts) r
-unfolding return_of line line_to letter
+    → Returned s s' (resolve_return (return_of ListSelf) ts) r
+unfolding line line_to letter
 self-other s s' n r ts h u k e q = rw (unlisted s n ts h u).1 (front-text s (74 ∷ 44 ∷ 65 ∷ 44 ∷ []) s' r (t_list (base t_any)) k refl (omega arith) e q)
+
+pub fixed-short : (t : FixedTy) → length (line (fixed_of t)) ≤ 4
+unfolding line line_to letter
+fixed-short Int = omega arith
+fixed-short ListString = omega arith
+fixed-short ListAny = omega arith

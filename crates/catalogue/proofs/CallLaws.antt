@@ -13,17 +13,18 @@ use Rattle.text.specs.Text.{is_found}
 use Rattle.text.proofs.Laws.{part_slice}
 use Rattle.semantics.specs.Bytes.{Bytes}
 use Rattle.semantics.specs.Ty.{type_line}
-use Rattle.stores.specs.Catalogue.{Live, Catalogue, room_limit, number_limit, uses_limit, taken, low, stored, read_store, Told, refuses, tells, with_text, with_number, used, enter_old, enter_new, enter_by, enter, release_by, release, look_up_by, look_up, Ask, entering, releasing, looking_up, call, Kept, call_by, store_call, line_place, place_in, place_of}
+use Rattle.stores.specs.Catalogue.{Live, Catalogue, room_limit, number_limit, uses_limit, taken, low, stored, read_store, Told, refuses, tells, with_text, used, enter_old, enter_new, enter_by, enter, release_by, release, look_up_by, look_up, Ask, entering, releasing, looking_up, call, Kept, call_by, store_call, line_place, place_in, place_of}
 use Rattle.catalogue.specs.Places.{Small, at16, at32, Run, spot_at, has_text, has_number}
-use Rattle.catalogue.specs.Checks.{check_of}
-use Rattle.catalogue.specs.Stands.{Open, Opened, Stands, Standing, StandsTo, EndsAt, kept_of, kept_as, kept_by, looked_by, Looks, Looked, looked_as, added}
-use Rattle.catalogue.specs.declared.Call.{Call}
+use Rattle.catalogue.specs.Checks.{no_store, check_of}
+use Rattle.catalogue.specs.Stands.{Open, Opened, Stands, Standing, StandsTo, EndsAt, kept_of, looked_by, Looks, Looked, looked_as, added}
+use Rattle.std.specs.Prelude.{Option as Place, Some, None, Result, Ok, Err}
+use Rattle.semantics.specs.Refusals.{number_of}
+use Rattle.semantics.specs.declared.refusals.Refused.{Refused}
+use Rattle.semantics.specs.declared.refusals.Refusal.TheVariants.{WrongSize, NotLive}
 use Rattle.catalogue.specs.declared.Line.{Line}
-use Rattle.catalogue.specs.declared.find.Spot.{Spot}
-use Rattle.catalogue.specs.declared.find.Spot.TheVariants.{At, Nothing}
-use Rattle.catalogue.specs.declared.form.Checked.TheVariants.{Bad, Is}
+use Rattle.catalogue.specs.declared.form.Checked.{Checked}
 use Rattle.catalogue.proofs.Bytewise.{store_is}
-use Rattle.catalogue.proofs.StandLaws.{text-first, number-first, Cut, spot-cut, spot-nowhere, stands_here, stands-formed, open-run, cut_stands}
+use Rattle.catalogue.proofs.StandLaws.{text-first, number-first, Cut, spot-cut, spot-nowhere, stands_here, open-run, cut_stands}
 use Rattle.catalogue.proofs.WriteLaws.{uses-stored, added-stored, open-end, open-long}
 
 kept : {t u : Told} {s x : Bytes} → t ≡ u → s ≡ x → ◌≡◌ {A = Kept} (record { told = t; store = s }) (record { told = u; store = x })
@@ -32,36 +33,35 @@ kept p q = ap₂ (λ (t : Told) (s : Bytes). record { told = t; store = s }) p q
 told : {a b c d e f : ℕ} (t : Bytes) → a ≡ d → b ≡ e → c ≡ f → ◌≡◌ {A = Told} (record { number = a; first = b; second = c; text = t }) (record { number = d; first = e; second = f; text = t })
 told t p q r = rw (p, q, r)
 
-abbrev Refused : Call → ℕ → ℕ → Type 0
-Refused r n f = (r.number ≡ n) × (r.first ≡ f) × (r.second ≡ 0)
-
-refused : (r : Call) (n f : ℕ) (s x : Bytes) → Refused r n f → s ≡ x → kept_by r s ≡ record { told = refuses n f; store = x }
-refused r n f s x h e = kept (told [] h.0 h.1 h.2) e
+refused : (n f : ℕ) {s x : Bytes} → s ≡ x → ◌≡◌ {A = Kept} (record { told = refuses n f; store = s }) (record { told = refuses n f; store = x })
+refused n f e = ap (λ (y : Bytes). record { told = refuses n f; store = y }) e
 
 -- ## The store as it is checked
 
-pub no_store : (s : Bytes) → Bad ≡ check_of (read_store s) → read_store s ≡ none
+pub unread : (s : Bytes) → Err no_store ≡ check_of (read_store s) → read_store s ≡ none
 unfolding check_of
-no_store s e = go (read_store s) refl e
+unread s e = go (read_store s) refl e
   where
-    go : (o : Option Catalogue) → read_store s ≡ o → Bad ≡ check_of o → read_store s ≡ none
+    go : (o : Option Catalogue) → read_store s ≡ o → Err no_store ≡ check_of o → read_store s ≡ none
     go none r q = r
     go (some c) r q = absurd (let w : ◌≡◌ {A = ℕ} 0 1 = cc in omega arith)
 
-pub opened : (s : Bytes) → Small s → (last end : ℕ) → Is last end ≡ check_of (read_store s) → Opened s last end
+pub opened : (s : Bytes) → Small s → (r : Checked) → Ok r ≡ check_of (read_store s) → Opened s r.last r.end
 unfolding check_of
-opened s small last end e = go (read_store s) refl e
+opened s small r e = go (read_store s) refl e
   where
-    go : (o : Option Catalogue) → read_store s ≡ o → Is last end ≡ check_of o → Opened s last end
-    go none r q = absurd (let w : ◌≡◌ {A = ℕ} 0 1 = cc in omega arith)
-    go (some c) r q = record { list = c; form = record { read = r; is = store_is s small c r }; given = cc; ends = cc }
+    go : (o : Option Catalogue) → read_store s ≡ o → Ok r ≡ check_of o → Opened s r.last r.end
+    go none p q = absurd (let w : ◌≡◌ {A = ℕ} 0 1 = cc in omega arith)
+    go (some c) p q =
+        let same : ◌≡◌ {A = Checked} r (record { last = c.last; end = 8 + taken c.live }) = cc in
+        record { list = c; form = record { read = p; is = store_is s small c p }; given = ap (λ (k : Checked). k.last) same; ends = ap (λ (k : Checked). k.end) same }
 
 pub ends_at : (s : Bytes) (last end : ℕ) → Opened s last end → EndsAt s end
 ends_at s last end o = record { list = o.list; form = o.form; ends = o.ends }
 
-pub store-refused : (s : Bytes) (a : Ask) → Bad ≡ check_of (read_store s) → (r : Call) → Refused r 2 0 → kept_by r s ≡ store_call s a
+pub store-refused : (s : Bytes) (a : Ask) → Err no_store ≡ check_of (read_store s) → ◌≡◌ {A = Kept} (record { told = refuses 2 0; store = s }) (store_call s a)
 unfolding store_call call_by
-store-refused s a e r h = refused r 2 0 s s h refl ∙ sym (ap (λ (o : Option Catalogue). call_by s o a) (no_store s e))
+store-refused s a e = sym (ap (λ (o : Option Catalogue). call_by s o a) (unread s e))
 
 pub called : (s : Bytes) (c : Catalogue) → Open s c → (a : Ask) → store_call s a ≡ kept_of (call c a)
 unfolding store_call call_by
@@ -69,12 +69,12 @@ called s c o a = ap (λ (x : Option Catalogue). call_by s x a) o.read
 
 -- ## Entering
 
-pub old-full : (s : Bytes) (at u : ℕ) (r : Call) → u ≡ at32 s (at + 4) → uses_limit ≤ u → Refused r 14 0 → (c : Catalogue) (l : Live) → Stands s c at l → kept_by r s ≡ kept_of (enter_old c l)
+pub old-full : (s : Bytes) (at u : ℕ) → u ≡ at32 s (at + 4) → uses_limit ≤ u → (c : Catalogue) (l : Live) → Stands s c at l → ◌≡◌ {A = Kept} (record { told = refuses 14 0; store = s }) (kept_of (enter_old c l))
 unfolding enter_old
-old-full s at u r e h p c l st =
+old-full s at u e h c l st =
     let k = (stands_here s c at l st).uses in
     let q : ltb l.uses uses_limit ≡ false = le-ltb l.uses uses_limit (omega arith) in
-    refused r 14 0 s (stored c) p st.form.is ∙ rw (q, enter_old)
+    refused 14 0 st.form.is ∙ rw (q, enter_old)
 
 pub old-more : (s : Bytes) (at u n : ℕ) (x : Bytes) → u ≡ at32 s (at + 4) → n ≡ at16 s at → u < uses_limit → x ≡ sets s (at + 4) (low 4 (u + 1)) → (c : Catalogue) (l : Live) → Stands s c at l
     → ◌≡◌ {A = Kept} (record { told = tells n (u + 1) []; store = x }) (kept_of (enter_old c l))
@@ -87,20 +87,20 @@ old-more s at u n x e f h w c l st =
     let v : u + 1 ≡ l.uses + 1 = omega arith in
     kept (told [] refl b v) (w ∙ ap (λ (y : ℕ). sets s (at + 4) (low 4 y)) v ∙ uses-stored s c at l st (l.uses + 1) (omega arith)) ∙ rw (q, enter_old)
 
-pub no_number : (s t : Bytes) (last end : ℕ) (r : Call) → number_limit ≤ last → Refused r 14 0 → (c : Catalogue) → Open s c → last ≡ c.last → end ≡ 8 + taken c.live → kept_by r s ≡ kept_of (enter_new c t)
+pub no_number : (s t : Bytes) (last end : ℕ) → number_limit ≤ last → (c : Catalogue) → Open s c → last ≡ c.last → end ≡ 8 + taken c.live → ◌≡◌ {A = Kept} (record { told = refuses 14 0; store = s }) (kept_of (enter_new c t))
 unfolding enter_new
-no_number s t last end r h p c o e f =
+no_number s t last end h c o e f =
     let q : ltb c.last number_limit ≡ false = le-ltb c.last number_limit (omega arith) in
-    refused r 14 0 s (stored c) p o.is ∙ rw (q, enter_new)
+    refused 14 0 o.is ∙ rw (q, enter_new)
 
-pub no_room : (s t : Bytes) (last end : ℕ) (r : Call) → last < number_limit → length s - end < length t + 8 → Refused r 13 0 → (c : Catalogue) → Open s c → last ≡ c.last → end ≡ 8 + taken c.live → kept_by r s ≡ kept_of (enter_new c t)
+pub no_room : (s t : Bytes) (last end : ℕ) → last < number_limit → length s - end < length t + 8 → (c : Catalogue) → Open s c → last ≡ c.last → end ≡ 8 + taken c.live → ◌≡◌ {A = Kept} (record { told = refuses 13 0; store = s }) (kept_of (enter_new c t))
 unfolding enter_new
-no_room s t last end r h k p c o e f =
+no_room s t last end h k c o e f =
     let q : ltb c.last number_limit ≡ true = lt-ltb c.last number_limit (omega arith) in
     let m = open-end s c o in
     let n = open-long s c o in
     let w : leb (taken c.live + (length t + 8)) room_limit ≡ false = lt-leb (taken c.live + (length t + 8)) room_limit (omega arith) in
-    refused r 13 0 s (stored c) p o.is ∙ rw (q, w, enter_new)
+    refused 13 0 o.is ∙ rw (q, w, enter_new)
 
 pub new-type : (s t : Bytes) (last end : ℕ) (x : Bytes) → last < number_limit → length t + 8 ≤ length s - end → x ≡ added s t (last + 1) end → (c : Catalogue) → Open s c → last ≡ c.last → end ≡ 8 + taken c.live
     → ◌≡◌ {A = Kept} (record { told = tells (last + 1) 1 []; store = x }) (kept_of (enter_new c t))
@@ -118,23 +118,23 @@ enter-line : (c : Catalogue) (t : Bytes) (o : Option Live) → is_found (type_li
 unfolding call enter
 enter-line c t o h e = rw (h, e, enter, call)
 
-pub no_line : (s t : Bytes) (last end : ℕ) → Opened s last end → (b : Bool) → b ≡ is_found (type_line t) → b ≡ false → (r : Call) → Refused r 8 1 → kept_by r s ≡ store_call s (entering t)
+pub no_line : (s t : Bytes) (last end : ℕ) → Opened s last end → (b : Bool) → b ≡ is_found (type_line t) → b ≡ false → ◌≡◌ {A = Kept} (record { told = refuses 8 1; store = s }) (store_call s (entering t))
 unfolding call enter
-no_line s t last end o b e f r h =
+no_line s t last end o b e f =
     let c = o.list in
     let q : is_found (type_line t) ≡ false = sym e ∙ f in
-    refused r 8 1 s (stored c) h o.form.is ∙ sym (called s c o.form (entering t) ∙ rw (q, enter, call))
+    refused 8 1 o.form.is ∙ sym (called s c o.form (entering t) ∙ rw (q, enter, call))
 
-abbrev Finds : (Live → Bool) → Bytes → ℕ → Spot → Type 0
+abbrev Finds : (Live → Bool) → Bytes → ℕ → Place ℕ → Type 0
 Finds p s end r = (ls : List Live) → Run s 8 ls end → r ≡ spot_at p 8 ls
 
-pub found-cut : (p : Live → Bool) (s : Bytes) (end : ℕ) (o : EndsAt s end) (r : Spot) → Finds p s end r → (a : ℕ) → r ≡ At a → Cut p 8 o.list.live a
+pub found-cut : (p : Live → Bool) (s : Bytes) (end : ℕ) (o : EndsAt s end) (r : Place ℕ) → Finds p s end r → (a : ℕ) → r ≡ Some a → Cut p 8 o.list.live a
 found-cut p s end o r f a e = let d = known-run s end o in spot-cut p 8 o.list.live a (sym e ∙ f o.list.live d)
   where
     known-run : (s : Bytes) (end : ℕ) (o : EndsAt s end) → Run s 8 o.list.live end
     known-run s end o = open-run s o.list o.form end o.ends
 
-pub found-standing : (p : Live → Bool) (s : Bytes) (end : ℕ) → EndsAt s end → (r : Spot) → Finds p s end r → (a : ℕ) → r ≡ At a → StandsTo s a end
+pub found-standing : (p : Live → Bool) (s : Bytes) (end : ℕ) → EndsAt s end → (r : Place ℕ) → Finds p s end r → (a : ℕ) → r ≡ Some a → StandsTo s a end
 found-standing p s end o r f a e =
     let k = found-cut p s end o r f a e in
     record { list = o.list; type = k.l; stands = cut_stands p s o.list a o.form k; ends = o.ends }
@@ -142,7 +142,7 @@ found-standing p s end o r f a e =
 pub standing : (s : Bytes) (at end : ℕ) → StandsTo s at end → Standing s at
 standing s at end st = record { list = st.list; type = st.type; stands = st.stands }
 
-pub entered-old : (s t : Bytes) (end : ℕ) (o : EndsAt s end) → is_found (type_line t) ≡ true → (r : Spot) → Finds (has_text t) s end r → (a : ℕ) → r ≡ At a → (k : Kept) → ((c : Catalogue) (l : Live) → Stands s c a l → k ≡ kept_of (enter_old c l))
+pub entered-old : (s t : Bytes) (end : ℕ) (o : EndsAt s end) → is_found (type_line t) ≡ true → (r : Place ℕ) → Finds (has_text t) s end r → (a : ℕ) → r ≡ Some a → (k : Kept) → ((c : Catalogue) (l : Live) → Stands s c a l → k ≡ kept_of (enter_old c l))
     → k ≡ store_call s (entering t)
 unfolding enter_by
 entered-old s t end o h r f a e k g =
@@ -150,7 +150,7 @@ entered-old s t end o h r f a e k g =
     let d = found-cut (has_text t) s end o r f a e in
     g c d.l (cut_stands (has_text t) s c a o.form d) ∙ sym (called s c o.form (entering t) ∙ ap kept_of (enter-line c t (some d.l) h (text-first t c.live ∙ d.first)))
 
-pub entered-new : (s t : Bytes) (last end : ℕ) (o : Opened s last end) → is_found (type_line t) ≡ true → (r : Spot) → Finds (has_text t) s end r → r ≡ Nothing → (k : Kept)
+pub entered-new : (s t : Bytes) (last end : ℕ) (o : Opened s last end) → is_found (type_line t) ≡ true → (r : Place ℕ) → Finds (has_text t) s end r → r ≡ None → (k : Kept)
     → ((c : Catalogue) → Open s c → last ≡ c.last → end ≡ 8 + taken c.live → k ≡ kept_of (enter_new c t)) → k ≡ store_call s (entering t)
 unfolding enter_by
 entered-new s t last end o h r f e k g =
@@ -160,29 +160,27 @@ entered-new s t last end o h r f e k g =
 
 -- ## Releasing
 
-pub last-use : (s : Bytes) (at u : ℕ) (x : Bytes) → u ≡ at32 s (at + 4) → u ≡ 1 → ((c : Catalogue) (l : Live) → Stands s c at l → x ≡ stored (used c l.number 0)) → (c : Catalogue) (l : Live) → Stands s c at l
-    → ◌≡◌ {A = Kept} (record { told = tells 0 0 []; store = x }) (kept_of (release_by c (some l)))
+pub last-use : (s : Bytes) (at u : ℕ) (x : Bytes) → u ≡ at32 s (at + 4) → u - 1 ≡ 0 → ((c : Catalogue) (l : Live) → Stands s c at l → x ≡ stored (used c l.number 0)) → (c : Catalogue) (l : Live) → Stands s c at l
+    → ◌≡◌ {A = Kept} (record { told = tells (u - 1) 0 []; store = x }) (kept_of (release_by c (some l)))
 unfolding release_by
 last-use s at u x e h g c l st =
     let k = (stands_here s c at l st).uses in
-    let z : 0 ≡ l.uses - 1 = omega arith in
-    kept (told [] refl z refl) (g c l st ∙ ap (λ (y : ℕ). stored (used c l.number y)) z)
+    let z : u - 1 ≡ l.uses - 1 = ap (λ (y : ℕ). y - 1) (e ∙ k) in
+    kept (told [] refl z refl) (g c l st ∙ ap (λ (y : ℕ). stored (used c l.number y)) (sym h ∙ z))
 
-pub use-less : (s : Bytes) (at u : ℕ) (x : Bytes) → u ≡ at32 s (at + 4) → (u ≡ 1 → ⊥) → x ≡ sets s (at + 4) (low 4 (u - 1)) → (c : Catalogue) (l : Live) → Stands s c at l
+pub use-less : (s : Bytes) (at u : ℕ) (x : Bytes) → u ≡ at32 s (at + 4) → (u - 1 ≡ 0 → ⊥) → x ≡ sets s (at + 4) (low 4 (u - 1)) → (c : Catalogue) (l : Live) → Stands s c at l
     → ◌≡◌ {A = Kept} (record { told = tells (u - 1) 0 []; store = x }) (kept_of (release_by c (some l)))
 unfolding release_by
 use-less s at u x e h w c l st =
     let k = (stands_here s c at l st).uses in
-    let z : u - 1 ≡ l.uses - 1 = omega arith in
-    let f = (stands-formed s c at l st).used in
-    kept (told [] refl z refl) (w ∙ ap (λ (y : ℕ). sets s (at + 4) (low 4 y)) z ∙ uses-stored s c at l st (l.uses - 1) (more l.uses f (λ y. h (e ∙ k ∙ y))))
+    let z : u - 1 ≡ l.uses - 1 = ap (λ (y : ℕ). y - 1) (e ∙ k) in
+    kept (told [] refl z refl) (w ∙ ap (λ (y : ℕ). sets s (at + 4) (low 4 y)) z ∙ uses-stored s c at l st (l.uses - 1) (more (l.uses - 1) (λ y. h (z ∙ y))))
   where
-    more : (n : ℕ) → 0 < n → (n ≡ 1 → ⊥) → 0 < n - 1
-    more zero p q = absurd (omega arith)
-    more (suc zero) p q = absurd (q refl)
-    more (suc (suc n)) p q = omega arith
+    more : (n : ℕ) → (n ≡ 0 → ⊥) → 0 < n
+    more zero f = absurd (f refl)
+    more (suc n) f = omega arith
 
-pub released : (s : Bytes) (n end : ℕ) (o : EndsAt s end) → (r : Spot) → Finds (has_number n) s end r → (a : ℕ) → r ≡ At a → (k : Kept) → ((c : Catalogue) (l : Live) → Stands s c a l → k ≡ kept_of (release_by c (some l)))
+pub released : (s : Bytes) (n end : ℕ) (o : EndsAt s end) → (r : Place ℕ) → Finds (has_number n) s end r → (a : ℕ) → r ≡ Some a → (k : Kept) → ((c : Catalogue) (l : Live) → Stands s c a l → k ≡ kept_of (release_by c (some l)))
     → k ≡ store_call s (releasing n)
 unfolding call release
 released s n end o r f a e k g =
@@ -190,44 +188,34 @@ released s n end o r f a e k g =
     let d = found-cut (has_number n) s end o r f a e in
     g c d.l (cut_stands (has_number n) s c a o.form d) ∙ sym (called s c o.form (releasing n) ∙ ap (λ (x : Option Live). kept_of (release_by c x)) (number-first n c.live ∙ d.first))
 
-pub not-released : (s : Bytes) (n end : ℕ) (o : EndsAt s end) → (r : Spot) → Finds (has_number n) s end r → r ≡ Nothing → (q : Call) → Refused q 15 0 → kept_by q s ≡ store_call s (releasing n)
+pub not-released : (s : Bytes) (n end : ℕ) (o : EndsAt s end) → (r : Place ℕ) → Finds (has_number n) s end r → r ≡ None → ◌≡◌ {A = Kept} (record { told = refuses 15 0; store = s }) (store_call s (releasing n))
 unfolding call release release_by
-not-released s n end o r f e q h =
+not-released s n end o r f e =
     let c = o.list in
     let w = spot-nowhere (has_number n) 8 c.live (sym e ∙ f c.live (open-run s c o.form end o.ends)) in
-    refused q 15 0 s (stored c) h o.form.is ∙ sym (called s c o.form (releasing n) ∙ ap (λ (x : Option Live). kept_of (release_by c x)) (number-first n c.live ∙ w))
+    refused 15 0 o.form.is ∙ sym (called s c o.form (releasing n) ∙ ap (λ (x : Option Live). kept_of (release_by c x)) (number-first n c.live ∙ w))
 
 -- ## Looking up
 
-abbrev Missed : Line → ℕ → Type 0
-Missed r n = (r.number ≡ n) × (r.at ≡ 0) × (r.end ≡ 0) × (r.uses ≡ 0)
+missed : (w : Refused) (s x : Bytes) → s ≡ x → Looks (record { told = refuses (number_of w.why) w.place; store = x }) (Err w) s
+missed w s x e = record { is = refused (number_of w.why) w.place e; up = omega arith; inside = omega arith }
 
-missed : (r : Line) (n : ℕ) (s x : Bytes) → Missed r n → s ≡ x → Looks (record { told = refuses n 0; store = x }) r s
-missed r n s x h e =
-    let a = h.1 in
-    let b = h.2 in
-    record {
-      is = kept (ap₂ (λ (f : ℕ) (t : Bytes). record { number = r.number; first = f; second = 0; text = t }) h.3 (ap₂ (λ (i j : ℕ). slice i j s) a b ∙ slice_empty 0 s) ∙ ap (λ (m : ℕ). record { number = m; first = 0; second = 0; text = [] }) h.0) e;
-      up = omega arith;
-      inside = omega arith;
-    }
-
-pub looked : (s : Bytes) (at u e : ℕ) → u ≡ at32 s (at + 4) → e ≡ at + 8 + at16 s (at + 2) → (r : Line) → r.number ≡ 0 → r.at ≡ at + 8 → r.end ≡ e → r.uses ≡ u → (c : Catalogue) (l : Live) → Stands s c at l
-    → Looks (kept_of (look_up_by c (some l))) r s
+pub looked : (s : Bytes) (at u e : ℕ) → u ≡ at32 s (at + 4) → e ≡ at + 8 + at16 s (at + 2) → (r : Line) → r.at ≡ at + 8 → r.end ≡ e → r.uses ≡ u → (c : Catalogue) (l : Live) → Stands s c at l
+    → Looks (kept_of (look_up_by c (some l))) (Ok r) s
 unfolding look_up_by
-looked s at u e p q r n a b w c l st =
+looked s at u e p q r a b w c l st =
     let k = stands_here s c at l st in
     let m = k.long in
     let i = k.inside in
     let v : r.end ≡ at + 8 + length l.text = omega arith in
     let x : r.uses ≡ l.uses = w ∙ p ∙ k.uses in
     record {
-      is = kept (ap₂ (λ (f : ℕ) (t : Bytes). record { number = r.number; first = f; second = 0; text = t }) x (ap₂ (λ (i j : ℕ). slice i j s) a v ∙ k.text) ∙ ap (λ (m : ℕ). record { number = m; first = l.uses; second = 0; text = l.text }) n) st.form.is;
+      is = kept (ap₂ (λ (f : ℕ) (t : Bytes). record { number = 0; first = f; second = 0; text = t }) x (ap₂ (λ (i j : ℕ). slice i j s) a v ∙ k.text)) st.form.is;
       up = omega arith;
       inside = omega arith;
     }
 
-pub looked-up : (s : Bytes) (n end : ℕ) (o : EndsAt s end) → (r : Spot) → Finds (has_number n) s end r → (a : ℕ) → r ≡ At a → (q : Line) → ((c : Catalogue) (l : Live) → Stands s c a l → Looks (kept_of (look_up_by c (some l))) q s)
+pub looked-up : (s : Bytes) (n end : ℕ) (o : EndsAt s end) → (r : Place ℕ) → Finds (has_number n) s end r → (a : ℕ) → r ≡ Some a → (q : Result Line Refused) → ((c : Catalogue) (l : Live) → Stands s c a l → Looks (kept_of (look_up_by c (some l))) q s)
     → Looks (store_call s (looking_up n)) q s
 unfolding call look_up
 looked-up s n end o r f a e q g =
@@ -235,80 +223,69 @@ looked-up s n end o r f a e q g =
     let d = found-cut (has_number n) s end o r f a e in
     subst (λ (k : Kept). Looks k q s) (sym (called s c o.form (looking_up n) ∙ ap (λ (x : Option Live). kept_of (look_up_by c x)) (number-first n c.live ∙ d.first))) (g c d.l (cut_stands (has_number n) s c a o.form d))
 
-pub not-looked-up : (s : Bytes) (n end : ℕ) (o : EndsAt s end) → (r : Spot) → Finds (has_number n) s end r → r ≡ Nothing → (q : Line) → Missed q 15 → Looks (store_call s (looking_up n)) q s
+pub not-looked-up : (s : Bytes) (n end : ℕ) (o : EndsAt s end) → (r : Place ℕ) → Finds (has_number n) s end r → r ≡ None → Looks (store_call s (looking_up n)) (Err (record { why = NotLive; place = 0 })) s
 unfolding call look_up look_up_by
-not-looked-up s n end o r f e q h =
+not-looked-up s n end o r f e =
     let c = o.list in
     let w = spot-nowhere (has_number n) 8 c.live (sym e ∙ f c.live (open-run s c o.form end o.ends)) in
-    subst (λ (k : Kept). Looks k q s) (sym (called s c o.form (looking_up n) ∙ ap (λ (x : Option Live). kept_of (look_up_by c x)) (number-first n c.live ∙ w))) (missed q 15 s (stored c) h o.form.is)
+    subst (λ (k : Kept). Looks k (Err (record { why = NotLive; place = 0 })) s) (sym (called s c o.form (looking_up n) ∙ ap (λ (x : Option Live). kept_of (look_up_by c x)) (number-first n c.live ∙ w))) (missed (record { why = NotLive; place = 0 }) s (stored c) o.form.is)
 
-pub not-looked : (s : Bytes) (n : ℕ) → Bad ≡ check_of (read_store s) → (q : Line) → Missed q 2 → Looks (store_call s (looking_up n)) q s
+pub not-looked : (s : Bytes) (n : ℕ) → Err no_store ≡ check_of (read_store s) → Looks (store_call s (looking_up n)) (Err (record { why = WrongSize; place = 0 })) s
 unfolding store_call call_by
-not-looked s n e q h = subst (λ (k : Kept). Looks k q s) (sym (ap (λ (o : Option Catalogue). call_by s o (looking_up n)) (no_store s e))) (missed q 2 s s h refl)
+not-looked s n e =
+    subst (λ (k : Kept). Looks k (Err (record { why = WrongSize; place = 0 })) s) (sym (ap (λ (o : Option Catalogue). call_by s o (looking_up n)) (unread s e))) (missed (record { why = WrongSize; place = 0 }) s s refl)
 
 -- ## Its place
 
-place-spot : (n at : ℕ) (ls : List Live) (a : ℕ) → At a ≡ spot_at (has_number n) at ls → line_place n at ls ≡ a + 8
+place-spot : (n at : ℕ) (ls : List Live) (a : ℕ) → Some a ≡ spot_at (has_number n) at ls → line_place n at ls ≡ a + 8
 unfolding spot_at line_place
 place-spot n at [] a e = absurd (let w : ◌≡◌ {A = ℕ} 0 1 = cc in omega arith)
 place-spot n at (l ∷ ls) a e = go (eqb n l.number) e (place-spot n (at + 8 + length l.text) ls a)
   where
-    go : (b : Bool) → ◌≡◌ {A = Spot} (At a) (elim b [ true ↦ At at | false ↦ spot_at (has_number n) (at + 8 + length l.text) ls ])
-        → (At a ≡ spot_at (has_number n) (at + 8 + length l.text) ls → line_place n (at + 8 + length l.text) ls ≡ a + 8)
+    go : (b : Bool) → ◌≡◌ {A = Place ℕ} (Some a) (elim b [ true ↦ Some at | false ↦ spot_at (has_number n) (at + 8 + length l.text) ls ])
+        → (Some a ≡ spot_at (has_number n) (at + 8 + length l.text) ls → line_place n (at + 8 + length l.text) ls ≡ a + 8)
         → elim b [ true ↦ at + 8 | false ↦ line_place n (at + 8 + length l.text) ls ] ≡ a + 8
     go true r ih = let z : a ≡ at = cc in omega arith
     go false r ih = ih r
 
-place-nowhere : (n at : ℕ) (ls : List Live) → Nothing ≡ spot_at (has_number n) at ls → line_place n at ls ≡ 0
+place-nowhere : (n at : ℕ) (ls : List Live) → None ≡ spot_at (has_number n) at ls → line_place n at ls ≡ 0
 unfolding spot_at line_place
 place-nowhere n at [] e = refl
 place-nowhere n at (l ∷ ls) e = go (eqb n l.number) e (place-nowhere n (at + 8 + length l.text) ls)
   where
-    go : (b : Bool) → ◌≡◌ {A = Spot} Nothing (elim b [ true ↦ At at | false ↦ spot_at (has_number n) (at + 8 + length l.text) ls ])
-        → (Nothing ≡ spot_at (has_number n) (at + 8 + length l.text) ls → line_place n (at + 8 + length l.text) ls ≡ 0)
+    go : (b : Bool) → ◌≡◌ {A = Place ℕ} None (elim b [ true ↦ Some at | false ↦ spot_at (has_number n) (at + 8 + length l.text) ls ])
+        → (None ≡ spot_at (has_number n) (at + 8 + length l.text) ls → line_place n (at + 8 + length l.text) ls ≡ 0)
         → ◌≡◌ {A = ℕ} (elim b [ true ↦ at + 8 | false ↦ line_place n (at + 8 + length l.text) ls ]) 0
     go true r ih = absurd (let w : ◌≡◌ {A = ℕ} 0 1 = cc in omega arith)
     go false r ih = ih r
 
-placed : (s : Bytes) (n end : ℕ) (o : EndsAt s end) (r : Spot) → Finds (has_number n) s end r → (place_of s n ≡ line_place n 8 o.list.live) × (r ≡ spot_at (has_number n) 8 o.list.live)
+placed : (s : Bytes) (n end : ℕ) (o : EndsAt s end) (r : Place ℕ) → Finds (has_number n) s end r → (place_of s n ≡ line_place n 8 o.list.live) × (r ≡ spot_at (has_number n) 8 o.list.live)
 unfolding place_in
 placed s n end o r f = (ap (λ (c : Option Catalogue). place_in c n) o.form.read, f o.list.live (open-run s o.list o.form end o.ends))
 
-pub found-place : (s : Bytes) (n end : ℕ) (o : EndsAt s end) (r : Spot) → Finds (has_number n) s end r → (a : ℕ) → r ≡ At a → place_of s n ≡ a + 8
+pub found-place : (s : Bytes) (n end : ℕ) (o : EndsAt s end) (r : Place ℕ) → Finds (has_number n) s end r → (a : ℕ) → r ≡ Some a → place_of s n ≡ a + 8
 found-place s n end o r f a e = let p = placed s n end o r f in p.0 ∙ place-spot n 8 o.list.live a (sym e ∙ p.1)
 
-pub no_place : (s : Bytes) (n end : ℕ) (o : EndsAt s end) (r : Spot) → Finds (has_number n) s end r → r ≡ Nothing → place_of s n ≡ 0
+pub no_place : (s : Bytes) (n end : ℕ) (o : EndsAt s end) (r : Place ℕ) → Finds (has_number n) s end r → r ≡ None → place_of s n ≡ 0
 no_place s n end o r f e = let p = placed s n end o r f in p.0 ∙ place-nowhere n 8 o.list.live (sym e ∙ p.1)
 
-pub no-store-place : (s : Bytes) (n : ℕ) → Bad ≡ check_of (read_store s) → place_of s n ≡ 0
+pub no-store-place : (s : Bytes) (n : ℕ) → Err no_store ≡ check_of (read_store s) → place_of s n ≡ 0
 unfolding place_in
-no-store-place s n e = ap (λ (c : Option Catalogue). place_in c n) (no_store s e)
+no-store-place s n e = ap (λ (c : Option Catalogue). place_in c n) (unread s e)
 
 -- the part that is handed out is the line
-pub looked-part : (s : Bytes) (r : Line) (k : Kept) → looked_by r s ≡ k → looked_as r.number r.uses (take (r.end - r.at) (drop r.at s)) s ≡ k
-looked-part s r k e = ap (λ (t : Bytes). looked_as r.number r.uses t s) (part_slice r.at r.end s) ∙ e
+pub looked-part : (s : Bytes) (l : Line) (k : Kept) → looked_by (Ok l) s ≡ k → looked_as 0 l.uses (take (l.end - l.at) (drop l.at s)) s ≡ k
+looked-part s l k e = ap (λ (t : Bytes). looked_as 0 l.uses t s) (part_slice l.at l.end s) ∙ e
 
 -- ## For callers
 
-pub one_number : (s : Bytes) (n : ℕ) → (store_call s (releasing n)).told.second ≡ 0
-unfolding store_call call_by call release release_by
-one_number s n = go (read_store s)
-  where
-    by : (c : Catalogue) (o : Option Live) → (release_by c o).0.second ≡ 0
-    by c none = refl
-    by c (some l) = refl
-
-    go : (o : Option Catalogue) → (call_by s o (releasing n)).told.second ≡ 0
-    go none = refl
-    go (some c) = by c (with_number n c.live)
-
-pub first_alone : (s x : Bytes) (n : ℕ) (r : Call) → kept_by r x ≡ store_call s (releasing n) → kept_as r.number r.first 0 x ≡ store_call s (releasing n)
-first_alone s x n r e = ap (λ (z : ℕ). kept_as r.number r.first z x) (sym (ap (λ (k : Kept). k.told.second) e ∙ one_number s n)) ∙ e
-
-pub looked-at : (s : Bytes) (n : ℕ) (r : Line) → Looked s n r → (looked_as r.number r.uses (slice r.at (r.at + (r.end - r.at)) s) s ≡ store_call s (looking_up n)) × (r.at ≡ place_of s n) × (r.at + (r.end - r.at) ≤ length s)
-looked-at s n r w =
+pub looked-at : (s : Bytes) (n : ℕ) (l : Line) → Looked s n (Ok l) → (looked_as 0 l.uses (slice l.at (l.at + (l.end - l.at)) s) s ≡ store_call s (looking_up n)) × (l.at ≡ place_of s n) × (l.at + (l.end - l.at) ≤ length s)
+looked-at s n l w =
     let h = w.looks in
     let u = h.up in
     let i = h.inside in
-    let e : r.at + (r.end - r.at) ≡ r.end = omega arith in
-    (ap (λ (z : ℕ). looked_as r.number r.uses (slice r.at z s) s) e ∙ h.is, w.place, omega arith)
+    let e : l.at + (l.end - l.at) ≡ l.end = omega arith in
+    (ap (λ (z : ℕ). looked_as 0 l.uses (slice l.at z s) s) e ∙ h.is, w.place, omega arith)
+
+pub missed-at : (s : Bytes) (n : ℕ) (w : Refused) → Looked s n (Err w) → (looked_as (number_of w.why) w.place (slice 0 0 s) s ≡ store_call s (looking_up n)) × (0 ≡ place_of s n)
+missed-at s n w k = (ap (λ (t : Bytes). looked_as (number_of w.why) w.place t s) (slice_empty 0 s) ∙ k.looks.is, k.place)

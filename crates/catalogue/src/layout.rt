@@ -13,8 +13,3 @@ pub const ENTRY_HEAD: usize = 8;
 pub const AT_LENGTH: usize = 2;
 
 pub const AT_USES: usize = 4;
-
-// What one byte, and what two bytes can tell apart.
-pub const BYTE: usize = 256;
-
-pub const TWO_BYTES: usize = 65536;

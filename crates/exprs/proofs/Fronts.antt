@@ -1,12 +1,9 @@
 -- Bytes put to the front as a type, and what settles an end. Assumes nothing.
 use Prim.Native.Nat.{ℕ, ◌≤◌}
 use native.Mathlib.Omega.{arith}
-use borrow.Author.Tests.{ne_eqb}
 use mathlib.Core.Path.{◌≡◌, refl, sym, ap, ◌∙◌, subst}
 use mathlib.Core.List.{[], ◌∷◌}
 use mathlib.Core.Option.{none}
-use mathlib.Core.Bool.{Bool, true, false}
-use lib.Dec.{eqb}
 use lib.ListN.{length}
 use lib.Seq.{sets, length-sets}
 use Rattle.semantics.specs.Bytes.{Bytes}
@@ -17,7 +14,6 @@ use Rattle.builtins.specs.Rows.{Returned}
 use Rattle.builtins.proofs.Laws.{front-line}
 use Rattle.report.specs.Report.{faults_text}
 use Rattle.report.specs.declared.Tally.{Tally}
-use Rattle.exprs.specs.declared.state.Ended.TheVariants.{Typed}
 use Rattle.exprs.specs.End.{Puts, Settles}
 
 -- ## A type line at the front
@@ -43,10 +39,6 @@ put-anys h p = put-type (t_list (base t_any)) refl h p
 
 -- ## A variable's type
 
-kind-other : (x y z : Bool) → x ≡ false → y ≡ false → z ≡ false
-    → elim x [ true ↦ t_node none | false ↦ elim y [ true ↦ t_relationship none | false ↦ elim z [ true ↦ base t_path | false ↦ base t_any ] ] ] ≡ base t_any
-kind-other x y z a b c = rw (a, b, c)
-
 module _ {s s' : Bytes} {r : ℕ} (k : ℕ) (h : 1024 ≤ length s) where
   pub var-node : k ≡ 0 → Puts (76 ∷ 44 ∷ 33 ∷ 44 ∷ []) s s' r → Returned s s' (kind_type k) r
   unfolding line line_to labels_to
@@ -60,17 +52,17 @@ module _ {s s' : Bytes} {r : ℕ} (k : ℕ) (h : 1024 ≤ length s) where
   unfolding letter
   var-path e p = rw e (put-base t_path refl (omega arith) p)
 
-  pub var-other : (k ≡ 0 → ⊥) → (k ≡ 1 → ⊥) → (k ≡ 2 → ⊥) → Puts (65 ∷ 44 ∷ []) s s' r → Returned s s' (kind_type k) r
-  var-other a b c p = subst (λ (t : Ty). Returned s s' t r) (sym (kind-other (eqb k 0) (eqb k 1) (eqb k 2) (ne_eqb k 0 a) (ne_eqb k 1 b) (ne_eqb k 2 c))) (put-any (omega arith) p)
+  pub var-value : k ≡ 3 → Puts (65 ∷ 44 ∷ []) s s' r → Returned s s' (kind_type k) r
+  var-value e p = rw e (put-any (omega arith) p)
 
 pub var-kind : {s : Bytes} {r k m : ℕ} → k ≡ m → TypeAt s 0 r (kind_type k) → TypeAt s 0 r (kind_type m)
 var-kind {s} {r} e a = subst (λ (k : ℕ). TypeAt s 0 r (kind_type k)) e a
 
 -- ## An end
 
-pub settle : {t : Ty} {s s' : Bytes} {m : Tally} {len : ℕ} → Returned s s' t len → Settles t s s' m (Typed len m)
+pub settle : {t : Ty} {s s' : Bytes} {m : Tally} {len : ℕ} → Returned s s' t len → Settles t s s' m (record { len = len; tally = m })
 settle w fs out out' n a = record { answer = (w.at, a); long = w.long; as_long = ap length a.text ∙ length-sets out n.fill (faults_text fs) }
 
-pub settle-bool : {s s' : Bytes} {m : Tally} {len : ℕ} → 2 ≤ length s → Puts (67 ∷ 44 ∷ []) s s' len → Settles (base t_bool) s s' m (Typed len m)
+pub settle-bool : {s s' : Bytes} {m : Tally} {len : ℕ} → 2 ≤ length s → Puts (67 ∷ 44 ∷ []) s s' len → Settles (base t_bool) s s' m (record { len = len; tally = m })
 unfolding letter
 settle-bool h p = settle (put-base t_bool refl h p)

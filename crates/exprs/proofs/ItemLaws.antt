@@ -2,6 +2,8 @@
 use mathlib.Core.Path.{◌≡◌, refl, sym, ◌∙◌, ap, subst}
 use mathlib.Core.List.{[], ◌∷◌, ◌++◌}
 use mathlib.Core.Option.{Option, none, some}
+use Rattle.std.specs.declared.option.Option.{Option as Optional}
+use Rattle.std.specs.declared.option.Option.TheVariants.{Some, None}
 use mathlib.Core.Bool.{Bool, true, false, not, false≢true}
 use Prim.Native.Nat.{ℕ, ◌+◌, ◌-◌, ◌*◌, ◌≤◌}
 use native.Mathlib.Omega.{arith}
@@ -15,15 +17,14 @@ use Rattle.ty.specs.Parts.{TypeAt, TypeFrom}
 use Rattle.ty.proofs.UnionEnds.{type-long}
 use Rattle.unify_run.specs.Run.{Run, done, mismatch, large, verdict}
 use Rattle.unify_run.proofs.Size.{line-two, small-sound, small-true, element-inside}
-use Rattle.unify.specs.Work.{Operand, Ready, Answered, Unifies, slots}
-use Rattle.unify.specs.declared.Unified.{Unified}
+use Rattle.unify.specs.Work.{Unified, span, Operand, Ready, Answered, Unifies, slots}
 use Rattle.unify.specs.declared.Span.{Span}
-use Rattle.unify.specs.declared.Unified.TheVariants.{Done, Mismatch, TooLarge}
+use Rattle.unify.specs.declared.UnifyError.TheVariants.{Mismatch, TooLarge}
+use Rattle.std.specs.Prelude.{Ok, Err}
+use Rattle.std.specs.Bool.{then_some}
 use Rattle.walk_run.specs.Run.{items, meet_item, keep_item}
 use Rattle.exprs.specs.State.{text_of, place, behind, full, ChildAt, KeepAs, Keeps, SomeList, ListKept, Headed, ItemRoom, SomeItem, ItemKept}
 use Rattle.exprs.specs.declared.state.Accumulator.{Accumulator}
-use Rattle.exprs.specs.declared.state.Keep.{Keep}
-use Rattle.exprs.specs.declared.state.Keep.TheVariants.{On, Large}
 use Rattle.exprs.proofs.StateLaws.{Is, list-line, list-head}
 
 -- ## `fitted`
@@ -36,22 +37,29 @@ pub list_inside : {s : Bytes} {len : ℕ} → SomeList s len → len ≡ length 
 list_inside {s} {len} p = sym (length-take-le len s p.at.inside)
 
 module _ {s : Bytes} {len : ℕ} (b : Bool) (h : (t : Ty) → take len s ≡ line t → b ≡ not (too_large t)) where
-  pub fitted-on : {q : Accumulator} → b ≡ true → Is q len 0 → ListKept s len (On q)
+  fitted-on : {q : Accumulator} → b ≡ true → Is q len 0 → ListKept s len (Some q)
   unfolding text_of place behind full
   fitted-on {q} e i t g = go (too_large (t_list t)) (sym e ∙ h (t_list t) g.is)
     where
-      go : (c : Bool) → true ≡ not c → KeepAs (elim c [ true ↦ none | false ↦ some (items (some t)) ]) s (On q)
+      go : (c : Bool) → true ≡ not c → KeepAs (elim c [ true ↦ none | false ↦ some (items (some t)) ]) s (Some q)
       go true p = absurd (false≢true (sym p))
       go false p =
           let l : len ≡ length (line (t_list t)) = omega (arith, type-long g) in
           record { len = i.0 ∙ l; second = i.1; over = i.2; front = ap (λ (m : ℕ). take m s) (sym l) ∙ g.is }
 
-  pub fitted-large : b ≡ false → ListKept s len Large
+  fitted-large : b ≡ false → ListKept s len None
   fitted-large e t g = go (too_large (t_list t)) (sym e ∙ h (t_list t) g.is)
     where
-      go : (c : Bool) → false ≡ not c → KeepAs (elim c [ true ↦ none | false ↦ some (items (some t)) ]) s Large
+      go : (c : Bool) → false ≡ not c → KeepAs (elim c [ true ↦ none | false ↦ some (items (some t)) ]) s None
       go true p = tt
       go false p = absurd (false≢true p)
+
+  pub fitted-kept : {q : Accumulator} → Is q len 0 → ListKept s len (then_some b q)
+  fitted-kept {q} i = go b refl
+    where
+      go : (c : Bool) → b ≡ c → ListKept s len (then_some c q)
+      go true e = fitted-on e i
+      go false e = fitted-large e
 
 -- ## `any_items`
 
@@ -62,7 +70,7 @@ any-front (a ∷ b ∷ []) l h = absurd (omega arith)
 any-front (a ∷ b ∷ c ∷ []) l h = absurd (omega arith)
 any-front (a ∷ b ∷ c ∷ d ∷ s) l h = ap (λ (x : Bytes). x ++ (65 ∷ 44 ∷ [])) h
 
-pub any-kept : {s : Bytes} {q : Accumulator} → Headed s → Is q 4 0 → Keeps (some (items (some (base t_any)))) s (set (set s 2 65) 3 44) (On q)
+pub any-kept : {s : Bytes} {q : Accumulator} → Headed s → Is q 4 0 → Keeps (some (items (some (base t_any)))) s (set (set s 2 65) 3 44) (Some q)
 unfolding text_of place behind full line line_to letter
 any-kept {s} p i =
     record {
@@ -137,7 +145,7 @@ module _ {s : Bytes} {st : Accumulator} {n : ℕ} where
       go none c = record { element = p.ty; at = first-whole c }
       go (some u) c = absurd (omega (arith, long-some c))
 
-  pub first-kept : {r : Keep} → st.len ≡ 2 → ListKept s (st.len + n) r → ItemKept s s st n r
+  pub first-kept : {r : Optional Accumulator} → st.len ≡ 2 → ListKept s (st.len + n) r → ItemKept s s st n r
   unfolding keep_item
   first-kept e h none t c = record { kept = h t (first-whole c); long = refl }
   first-kept e h (some u) t c = absurd (omega (arith, long-some c))
@@ -149,7 +157,7 @@ module _ {s : Bytes} {st : Accumulator} {n : ℕ} where
     unfolding text_of
     some-head = list-head s u c.state.front
 
-    some_left : Operand s 2 st.len (st.len + n) u
+    some_left : Operand s (span 2 st.len) (st.len + n) u
     unfolding text_of place regular
     some_left =
         let f = c.fine in
@@ -167,7 +175,7 @@ module _ {s : Bytes} {st : Accumulator} {n : ℕ} where
           small = small-true u (omega arith);
         }
 
-    some_right : Operand s st.len (st.len + n) (st.len + n) t
+    some_right : Operand s (span st.len (st.len + n)) (st.len + n) t
     some_right = record { at = c.child; below = omega arith; regular = c.good.regular; small = c.good.small }
 
   module _ (two : st.len ≡ 2 → ⊥) where
@@ -182,22 +190,22 @@ module _ {s : Bytes} {st : Accumulator} {n : ℕ} where
         go none c r = absurd (none-not c)
         go (some u) c r = record { element = u; item = p.ty; at = c; room = r; wide = p.wide }
 
-  pub ready : Running s st n → Ready s 2 st.len st.len (st.len + n) (st.len + n)
+  pub ready : Running s st n → Ready s (span 2 st.len) (span st.len (st.len + n)) (st.len + n)
   ready p = record { left = p.element; right = p.item; first = some_left p.at; second = some_right p.at; room = p.room }
 
-  module _ {s' : Bytes} {r : Unified} (h : Unifies s s' 2 st.len st.len (st.len + n) (st.len + n) r) where
+  module _ {s' : Bytes} {r : Unified} (h : Unifies s s' (span 2 st.len) (span st.len (st.len + n)) (st.len + n) r) where
     kept-head : {u t : Ty} → ChildAt (items (some u)) t s st n → take 2 s' ≡ 74 ∷ 44 ∷ []
     kept-head c =
         let e = st.len + n in
         let l = long-some c in
         sym (take-take 2 e s' (omega arith)) ∙ ap (take 2) h.below.kept ∙ take-take 2 e s (omega arith) ∙ some-head c
 
-    pub stood : {end : ℕ} → r ≡ Done end → Running s st n → Stood s' st.len (st.len + n) end
+    pub stood : {end : ℕ} → r ≡ Ok end → Running s st n → Stood s' st.len (st.len + n) end
     stood {end} e p =
         let c = p.at in
         go (verdict (unify p.element p.item)) (rw e at (h.answer p.element p.item (some_left c) (some_right c)))
       where
-        go : (v : Run) → Answered v s' (st.len + n) (Done end) → Stood s' st.len (st.len + n) end
+        go : (v : Run) → Answered v s' (st.len + n) (Ok end) → Stood s' st.len (st.len + n) end
         go (done w) a = record { ty = w; at = a; head = kept-head p.at; low = long-some p.at }
         go (mismatch x y) a = absurd a
         go large a = absurd a
@@ -205,7 +213,7 @@ module _ {s : Bytes} {st : Accumulator} {n : ℕ} where
     pub headed : Running s st n → Headed s'
     headed p = record { head = kept-head p.at; room = omega (arith, p.wide, h.below.long) }
 
-    module _ (two : st.len ≡ 2 → ⊥) (s'' : Bytes) (k : Keep) (long : length s'' ≡ length s')
+    module _ (two : st.len ≡ 2 → ⊥) (s'' : Bytes) (k : Optional Accumulator) (long : length s'' ≡ length s')
         (each : (u t : Ty) → ChildAt (items (some u)) t s st n → (v : Run) → Answered v s' (st.len + n) r → KeepAs (meet_item v) s'' k) where
       item-kept : ItemKept s s'' st n k
       unfolding keep_item
@@ -216,7 +224,7 @@ module _ {s : Bytes} {st : Accumulator} {n : ℕ} where
             long = long ∙ h.below.long;
           }
 
-    pub item-done : {end : ℕ} {s'' : Bytes} {k : Keep} → (st.len ≡ 2 → ⊥) → r ≡ Done end → s'' ≡ sets s' 2 (slice (st.len + n) (st.len + n + (end - (st.len + n))) s')
+    pub item-done : {end : ℕ} {s'' : Bytes} {k : Optional Accumulator} → (st.len ≡ 2 → ⊥) → r ≡ Ok end → s'' ≡ sets s' 2 (slice (st.len + n) (st.len + n + (end - (st.len + n))) s')
         → ListKept s'' (2 + (end - (st.len + n))) k → ItemKept s s'' st n k
     unfolding meet_item
     item-done {end} {s''} {k} two e q f = item-kept two s'' k (ap length q ∙ simp length-sets) each
@@ -227,7 +235,7 @@ module _ {s : Bytes} {st : Accumulator} {n : ℕ} where
         each u t c (mismatch x y) a = absurd (subst (λ (z : Unified). Answered (mismatch x y) s' (st.len + n) z) e a)
         each u t c large a = absurd (subst (λ (z : Unified). Answered large s' (st.len + n) z) e a)
 
-    pub item-apart : {a b : Span} {s'' : Bytes} {k : Keep} → (st.len ≡ 2 → ⊥) → r ≡ Mismatch a b → Keeps (some (items (some (base t_any)))) s' s'' k → ItemKept s s'' st n k
+    pub item-apart : {a b : Span} {s'' : Bytes} {k : Optional Accumulator} → (st.len ≡ 2 → ⊥) → r ≡ Err (Mismatch a b) → Keeps (some (items (some (base t_any)))) s' s'' k → ItemKept s s'' st n k
     unfolding meet_item
     item-apart {a} {b} {s''} {k} two e f = item-kept two s'' k f.long each
       where
@@ -236,11 +244,11 @@ module _ {s : Bytes} {st : Accumulator} {n : ℕ} where
         each u t c (mismatch x y) g = f.kept
         each u t c large g = absurd (subst (λ (z : Unified). Answered large s' (st.len + n) z) e g)
 
-    pub item-large : (st.len ≡ 2 → ⊥) → r ≡ TooLarge → ItemKept s s' st n Large
+    pub item-large : (st.len ≡ 2 → ⊥) → r ≡ Err TooLarge → ItemKept s s' st n None
     unfolding meet_item
-    item-large two e = item-kept two s' Large refl each
+    item-large two e = item-kept two s' None refl each
       where
-        each : (u t : Ty) → ChildAt (items (some u)) t s st n → (v : Run) → Answered v s' (st.len + n) r → KeepAs (meet_item v) s' Large
+        each : (u t : Ty) → ChildAt (items (some u)) t s st n → (v : Run) → Answered v s' (st.len + n) r → KeepAs (meet_item v) s' None
         each u t c (done w) g = absurd (subst (λ (z : Unified). Answered (done w) s' (st.len + n) z) e g)
         each u t c (mismatch x y) g = absurd (subst (λ (z : Unified). Answered (mismatch x y) s' (st.len + n) z) e g)
         each u t c large g = tt

@@ -1,101 +1,62 @@
--- The rule of a word by its number, and the roles of a line's children: a computed case for each word. Assumes nothing.
+-- The roles of a line's children: a computed case for each word. Assumes nothing.
 use mathlib.Core.Path.{◌≡◌, refl, sym, ◌∙◌, ap}
 use mathlib.Core.Logic.{◌⊎◌, inl, inr}
-use mathlib.Core.List.{List, [], ◌∷◌, map}
-use mathlib.Core.Bool.{Bool, true, false, cond, not, ◌&&◌, ◌||◌}
+use mathlib.Core.List.{List, [], ◌∷◌}
+use mathlib.Core.Bool.{Bool, true, false, cond}
 use Prim.Native.Nat.{ℕ, suc, zero, ◌+◌, ◌-◌, ◌*◌, ◌/◌, ◌%◌, ◌≤◌, ◌<◌}
 use native.Mathlib.Omega.{arith}
-use types.Run.{OneOf}
-use lib.Dec.{eqb, ltb, leb}
+use lib.Dec.{eqb}
 use lib.ListN.{length, get_or}
-use borrow.Author.Tests.{eqb-true, eq-eqb, ne_eqb, le-ltb, leb-true}
+use borrow.Author.Tests.{eq-eqb, ne_eqb}
 use Rattle.semantics.specs.Bytes.{Bytes}
-use Rattle.semantics.specs.Sheet.{kids, Word, cyrs_word, case_word, Head, parts_place, Role, plain, condition, answer, inner, present, arm_roles, row, roles, arity}
+use Rattle.semantics.specs.Sheet.{kids, Word, case_word, lcp_word, pcp_word, Head, parts_place, Role, plain, condition, answer, inner, present, arm_roles, row, roles, arity}
 use Rattle.semantics.proofs.All.{all_at}
-use Rattle.semantics.proofs.Words.{every, every-where, holds, named, each, kids-each}
-use Rattle.line.specs.Arrays.{slots, slots_of}
-use Rattle.line.specs.Rows.{word_no, numbered}
-use Rattle.line.proofs.Rows.{word_at}
-use Rattle.line.specs.Line.{most, flag_of, count_of, HeadIs}
+use Rattle.semantics.proofs.Words.{holds, named, each, kids-each}
+use Rattle.line.specs.Fields.{number_at}
+use Rattle.line.specs.Words.{word_of}
+use Rattle.line.specs.Line.{most, flag_at, count_at, flag_of, count_of, HeadIs}
 use Rattle.line.specs.declared.line.Head.{Head as Seen}
-use Rattle.exprs.specs.Rules.{typing_no, rule_no, role_no, case_row}
-
--- ## Rules
-
--- the number of each word's rule
-unfoldable pub rules : List ℕ
-rules = 12 ∷ map (λ (v : Word). rule_no (row v).rule) numbered
-
-rule-row : (v : Word) → get_or rules (word_no v) 0 ≡ rule_no (row v).rule
-unfolding rules numbered word_no row rule_no typing_no
-rule-row v = every (λ (v : Word). get_or rules (word_no v) 0) (λ (v : Word). rule_no (row v).rule) refl v
-
--- the words by their numbers
-unfoldable pub in_order : List Word
-in_order = cyrs_word ∷ numbered
-
-pub word-is : (v : Word) (n : ℕ) → word_no v ≡ n → v ≡ get_or in_order n cyrs_word
-unfolding in_order
-word-is v n e = sym (word_at v) ∙ ap (λ (i : ℕ). get_or in_order i cyrs_word) e
-
--- an arm of the match
-pub arm-rule : (k n w : ℕ) → get_or rules k 0 ≡ n → w ≡ k → (v : Word) → w ≡ word_no v → n ≡ rule_no (row v).rule
-arm-rule k n w t o v e = sym t ∙ (ap (λ (i : ℕ). get_or rules i 0) (sym o ∙ e) ∙ rule-row v)
-
--- behind the arms of a match on b, b + 1, ..
-abbrev pub Missed : ℕ → ℕ → ℕ → Type 0
-Missed b zero w = Unit {0}
-Missed b (suc k) w = Missed b k w × (OneOf ((k + b) ∷ []) w → ⊥)
-
-pub missed-out : (b k w : ℕ) → Missed b k w → b ≤ w → b + k ≤ w
-missed-out b zero w m h = omega arith
-missed-out b (suc k) w m h = beyond (missed-out b k w m.0 h) m.1
-  where
-    beyond : b + k ≤ w → (w ≡ k + b → ⊥) → b + suc k ≤ w
-    beyond l n = omega arith
-
--- the words with a type, and the entry, by number: the first, and how many
-abbrev pub typed_from : ℕ
-typed_from = 26
-
-abbrev pub typed_many : ℕ
-typed_many = 26
-
-outside : (n : ℕ) → Missed typed_from typed_many n → leb typed_from n && ltb n (typed_from + typed_many) ≡ false
-outside n p = go (leb typed_from n) refl
-  where
-    go : (b : Bool) → leb typed_from n ≡ b → leb typed_from n && ltb n (typed_from + typed_many) ≡ false
-    go true d = rw (d, le-ltb n (typed_from + typed_many) (missed-out typed_from typed_many n p (leb-true typed_from n d)))
-    go false d = rw d
-
-pub rest-rule : (v : Word) → Missed typed_from typed_many (word_no v) → 12 ≡ rule_no (row v).rule
-unfolding word_no row rule_no typing_no
-rest-rule v p = sym (every-where (λ (v : Word). not (leb typed_from (word_no v) && ltb (word_no v) (typed_from + typed_many))) (λ (v : Word). rule_no (row v).rule) 12 refl v (ap not (outside (word_no v) p)))
+use Rattle.line.specs.declared.words.Word.TheVariants.{Case, Lcp, Pcp}
+use Rattle.exprs.specs.declared.role.Role.{Role as CodeRole}
+use Rattle.exprs.specs.declared.role.Role.TheVariants.{Plain, Condition, Answer}
+use Rattle.exprs.specs.Rules.{child_role, case_row}
 
 -- ## Words whose children have no condition and no answer
 
 abbrev Quiet : List Role → Type 0
-Quiet ps = (j : ℕ) → role_no (get_or ps j plain) ≡ 0
+Quiet ps = (j : ℕ) → child_role (get_or ps j plain) ≡ Plain
 
 quiet_role : Role → Bool
-quiet_role p = eqb (role_no p) 0
+quiet_role plain = true
+quiet_role condition = false
+quiet_role answer = false
+quiet_role (inner p) = true
+
+quiet-plain : (p : Role) → quiet_role p ≡ true → child_role p ≡ Plain
+unfolding quiet_role child_role
+quiet-plain plain e = refl
+quiet-plain condition e = cc
+quiet-plain answer e = cc
+quiet-plain (inner p) e = refl
 
 -- a CASE or a comprehension
-asking : ℕ → Bool
-asking n = eqb n 44 || (eqb n 48 || eqb n 49)
+abbrev pub asking : Word → Bool
+asking case_word = true
+asking lcp_word = true
+asking pcp_word = true
+asking _ = false
 
-others : (v : Word) (ns : List ℕ) → (word_no v ≡ 44 → ⊥) → ((word_no v ≡ 48) ⊎ (word_no v ≡ 49) → ⊥) → Quiet (kids (row v).under ns)
-unfolding asking quiet_role each row word_no role_no
-others v ns n m j =
-    let no : asking (word_no v) ≡ false = rw (ne_eqb (word_no v) 44 n, ne_eqb (word_no v) 48 (λ e. m (inl e)), ne_eqb (word_no v) 49 (λ e. m (inr e))) in
-    let t : cond (asking (word_no v)) true (each quiet_role (named (row v).under)) ≡ true = holds (λ (v : Word). cond (asking (word_no v)) true (each quiet_role (named (row v).under))) refl v in
-    all_at {P = λ (p : Role). role_no p ≡ 0} plain refl (kids-each quiet_role (λ p e. eqb-true (role_no p) 0 e) (row v).under (ap (λ (b : Bool). cond b true (each quiet_role (named (row v).under))) (sym no) ∙ t) ns) j
+others : (v : Word) (ns : List ℕ) → asking v ≡ false → Quiet (kids (row v).under ns)
+unfolding quiet_role each row child_role
+others v ns e j =
+    let t : cond (asking v) true (each quiet_role (named (row v).under)) ≡ true = holds (λ (v : Word). cond (asking v) true (each quiet_role (named (row v).under))) refl v in
+    all_at {P = λ (p : Role). child_role p ≡ Plain} plain refl (kids-each quiet_role quiet-plain (row v).under (ap (λ (b : Bool). cond b true (each quiet_role (named (row v).under))) (sym e) ∙ t) ns) j
 
 module _ (s : Bytes) (h : Seen) (hd : Head) (i : HeadIs s h hd) (j : ℕ) where
   -- any other word
-  pub other-role : (h.word ≡ 44 → ⊥) → ((h.word ≡ 48) ⊎ (h.word ≡ 49) → ⊥) → 0 ≡ role_no (get_or (roles hd) j plain)
+  pub other-role : asking (word_of h.word) ≡ false → Plain ≡ child_role (get_or (roles hd) j plain)
   unfolding roles
-  other-role n m = sym (others hd.word hd.nums (λ e. n (i.word ∙ e)) (λ e. m (rw i.word e)) j)
+  other-role e = sym (others hd.word hd.nums (ap asking (sym i.word) ∙ e) j)
 
 -- ## CASE
 
@@ -148,49 +109,49 @@ scrutinee-bit (suc (suc b)) ps j h l = absurd (omega arith)
 abbrev arms_of : ℕ → ℕ → List Role
 arms_of f k = arm_roles (cond (eqb (f % 2) 0) condition plain) k (present (f / 2) answer [])
 
-pub scrutinee : (f k j : ℕ) → j < f % 2 → 0 ≡ role_no (get_or (case_row f k) j plain)
-unfolding case_row role_no
-scrutinee f k j h = sym (ap role_no (scrutinee-bit (f % 2) (arms_of f k) j h (omega arith)))
+pub scrutinee : (f k j : ℕ) → j < f % 2 → Plain ≡ child_role (get_or (case_row f k) j plain)
+unfolding case_row child_role
+scrutinee f k j h = sym (ap child_role (scrutinee-bit (f % 2) (arms_of f k) j h (omega arith)))
 
 module _ (f k j : ℕ) (fits : j < length (case_row f k)) (past : f % 2 ≤ j) where
   inside : j - f % 2 < length (arms_of f k)
   unfolding case_row
   inside = omega (arith, length-bit (f % 2) (arms_of f k) (omega arith), fits)
 
-  there : (p : Role) → get_or (arms_of f k) (j - f % 2) plain ≡ p → role_no p ≡ role_no (get_or (case_row f k) j plain)
+  there : (p : Role) → get_or (arms_of f k) (j - f % 2) plain ≡ p → child_role p ≡ child_role (get_or (case_row f k) j plain)
   unfolding case_row
   there p e =
       let z : j - f % 2 + f % 2 ≡ j = omega arith in
-      sym (ap role_no (rw z at (behind-bit (f % 2) (arms_of f k) (j - f % 2) (omega arith)) ∙ e))
+      sym (ap child_role (rw z at (behind-bit (f % 2) (arms_of f k) (j - f % 2) (omega arith)) ∙ e))
 
-  pub case-last : 2 * k ≤ j - f % 2 → 2 ≡ role_no (get_or (case_row f k) j plain)
-  unfolding role_no
+  pub case-last : 2 * k ≤ j - f % 2 → Answer ≡ child_role (get_or (case_row f k) j plain)
+  unfolding child_role
   case-last h = there answer (arm-behind (cond (eqb (f % 2) 0) condition plain) k (f / 2) (j - f % 2) h inside)
 
-  pub case-answer : j - f % 2 < 2 * k → (j - f % 2) % 2 ≡ 1 → 2 ≡ role_no (get_or (case_row f k) j plain)
-  unfolding role_no
+  pub case-answer : j - f % 2 < 2 * k → (j - f % 2) % 2 ≡ 1 → Answer ≡ child_role (get_or (case_row f k) j plain)
+  unfolding child_role
   case-answer h o = there answer (arm-answer (cond (eqb (f % 2) 0) condition plain) k (present (f / 2) answer []) (j - f % 2) h o)
 
-  condition-there : j - f % 2 < 2 * k → ((j - f % 2) % 2 ≡ 1 → ⊥) → role_no (cond (eqb (f % 2) 0) condition plain) ≡ role_no (get_or (case_row f k) j plain)
+  condition-there : j - f % 2 < 2 * k → ((j - f % 2) % 2 ≡ 1 → ⊥) → child_role (cond (eqb (f % 2) 0) condition plain) ≡ child_role (get_or (case_row f k) j plain)
   condition-there h o = there (cond (eqb (f % 2) 0) condition plain) (arm-condition (cond (eqb (f % 2) 0) condition plain) k (present (f / 2) answer []) (j - f % 2) h (odd-or-even (j - f % 2) o))
 
-  pub case-plain : j - f % 2 < 2 * k → ((j - f % 2) % 2 ≡ 1 → ⊥) → f % 2 ≡ 1 → 0 ≡ role_no (get_or (case_row f k) j plain)
-  unfolding role_no
+  pub case-plain : j - f % 2 < 2 * k → ((j - f % 2) % 2 ≡ 1 → ⊥) → f % 2 ≡ 1 → Plain ≡ child_role (get_or (case_row f k) j plain)
+  unfolding child_role
   case-plain h o e = rw (ne_eqb (f % 2) 0 (λ z. omega arith)) at (condition-there h o)
 
-  pub case-condition : j - f % 2 < 2 * k → ((j - f % 2) % 2 ≡ 1 → ⊥) → (f % 2 ≡ 1 → ⊥) → 1 ≡ role_no (get_or (case_row f k) j plain)
-  unfolding role_no
+  pub case-condition : j - f % 2 < 2 * k → ((j - f % 2) % 2 ≡ 1 → ⊥) → (f % 2 ≡ 1 → ⊥) → Condition ≡ child_role (get_or (case_row f k) j plain)
+  unfolding child_role
   case-condition h o n = rw (eq-eqb (f % 2) 0 (odd-or-even f n)) at (condition-there h o)
 
 -- ## A line that is read
 
-case-under : (v : Word) (ns : List ℕ) → v ≡ case_word → kids (row v).under ns ≡ case_row (get_or ns (get_or slots (word_no v) 0 % 8) 0) (get_or ns (get_or slots (word_no v) 0 / 8) 0)
-unfolding row word_no numbered slots slots_of case_row
+case-under : (v : Word) (ns : List ℕ) → v ≡ case_word → kids (row v).under ns ≡ case_row (number_at ns (flag_at (row v).under)) (number_at ns (count_at (row v).under))
+unfolding row case_row
 case-under v ns e = rw e
 
 -- a first child, one by the bit, and a last
-pub around-role : (p : Role) (b j : ℕ) → role_no p ≡ 0 → b ≤ 1 → (j ≡ 0) ⊎ (b < j) → role_no (get_or (p ∷ present b condition (plain ∷ [])) j plain) ≡ 0
-unfolding role_no
+pub around-role : (p : Role) (b j : ℕ) → child_role p ≡ Plain → b ≤ 1 → (j ≡ 0) ⊎ (b < j) → child_role (get_or (p ∷ present b condition (plain ∷ [])) j plain) ≡ Plain
+unfolding child_role
 around-role p b zero e h o = e
 around-role p zero (suc zero) e h o = refl
 around-role p zero (suc (suc j)) e h o = refl
@@ -200,8 +161,8 @@ around-role p (suc zero) (suc (suc zero)) e h o = refl
 around-role p (suc zero) (suc (suc (suc j))) e h o = refl
 around-role p (suc (suc b)) (suc j) e h o = absurd (omega arith)
 
-pub around-condition : (p : Role) (b j : ℕ) → b ≤ 1 → (j ≡ 0 → ⊥) → j ≤ b → role_no (get_or (p ∷ present b condition (plain ∷ [])) j plain) ≡ 1
-unfolding role_no
+pub around-condition : (p : Role) (b j : ℕ) → b ≤ 1 → (j ≡ 0 → ⊥) → j ≤ b → child_role (get_or (p ∷ present b condition (plain ∷ [])) j plain) ≡ Condition
+unfolding child_role
 around-condition p b zero h n l = absurd (n refl)
 around-condition p zero (suc j) h n l = absurd (omega arith)
 around-condition p (suc zero) (suc zero) h n l = refl
@@ -211,27 +172,31 @@ around-condition p (suc (suc b)) (suc j) h n l = absurd (omega arith)
 -- of a comprehension
 pub record Around (v : Word) (ns : List ℕ) : Type 0 where
   pub first : Role
-  pub quiet : role_no first ≡ 0
-  pub bit : get_or ns (get_or slots (word_no v) 0 % 8) 0 ≤ 1
-  pub is : kids (row v).under ns ≡ first ∷ present (get_or ns (get_or slots (word_no v) 0 % 8) 0) condition (plain ∷ [])
+  pub quiet : child_role first ≡ Plain
+  pub bit : number_at ns (flag_at (row v).under) ≤ 1
+  pub is : kids (row v).under ns ≡ first ∷ present (number_at ns (flag_at (row v).under)) condition (plain ∷ [])
 
-around-of : (v : Word) (ns : List ℕ) → ((i : ℕ) → get_or ns i 0 ≤ most (row v).fields i) → (word_no v ≡ 48) ⊎ (word_no v ≡ 49) → Around v ns
-unfolding in_order row word_no numbered slots slots_of role_no most
-around-of v ns r (inl e) = rw (word-is v 48 e) (record { first = plain; quiet = refl; bit = rw (word-is v 48 e) at r 0; is = refl })
-around-of v ns r (inr e) = rw (word-is v 49 e) (record { first = inner parts_place; quiet = refl; bit = rw (word-is v 49 e) at r 0; is = refl })
+around-of : (v : Word) (ns : List ℕ) → ((i : ℕ) → get_or ns i 0 ≤ most (row v).fields i) → (v ≡ lcp_word) ⊎ (v ≡ pcp_word) → Around v ns
+unfolding row child_role most
+around-of v ns r (inl e) = rw e (record { first = plain; quiet = refl; bit = rw e at r 0; is = refl })
+around-of v ns r (inr e) = rw e (record { first = inner parts_place; quiet = refl; bit = rw e at r 0; is = refl })
 
 module _ (s : Bytes) (h : Seen) (hd : Head) (i : HeadIs s h hd) where
-  pub case-roles : h.word ≡ 44 → roles hd ≡ case_row h.flag h.count
-  unfolding roles flag_of count_of in_order numbered
-  case-roles e = rw (i.flag, i.count) (case-under hd.word hd.nums (word-is hd.word 44 (sym i.word ∙ e)))
+  pub case-roles : h.word ≡ Case → roles hd ≡ case_row h.flag h.count
+  unfolding roles flag_of count_of
+  case-roles e = rw (i.flag, i.count) (case-under hd.word hd.nums (sym i.word ∙ ap word_of e))
 
-  pub case-role : (j r : ℕ) → h.word ≡ 44 → (j < length (case_row h.flag h.count) → r ≡ role_no (get_or (case_row h.flag h.count) j plain)) → j < arity hd → r ≡ role_no (get_or (roles hd) j plain)
+  pub case-role : (j : ℕ) (r : CodeRole) → h.word ≡ Case → (j < length (case_row h.flag h.count) → r ≡ child_role (get_or (case_row h.flag h.count) j plain)) → j < arity hd → r ≡ child_role (get_or (roles hd) j plain)
   unfolding arity
   case-role j r e f l = rw (case-roles e) (f (rw (case-roles e) at l))
 
-  pub around-is : (j r : ℕ) → (h.word ≡ 48) ⊎ (h.word ≡ 49)
-      → ((p : Role) → role_no p ≡ 0 → h.flag ≤ 1 → r ≡ role_no (get_or (p ∷ present h.flag condition (plain ∷ [])) j plain)) → r ≡ role_no (get_or (roles hd) j plain)
+  pub around-is : (j : ℕ) (r : CodeRole) → (h.word ≡ Lcp) ⊎ (h.word ≡ Pcp)
+      → ((p : Role) → child_role p ≡ Plain → h.flag ≤ 1 → r ≡ child_role (get_or (p ∷ present h.flag condition (plain ∷ [])) j plain)) → r ≡ child_role (get_or (roles hd) j plain)
   unfolding roles flag_of
   around-is j r o f =
-      let a = around-of hd.word hd.nums i.ranged (rw i.word at o) in
+      let a = around-of hd.word hd.nums i.ranged (said o) in
       rw (a.is, ← i.flag) (f a.first a.quiet (rw i.flag a.bit))
+    where
+      said : (h.word ≡ Lcp) ⊎ (h.word ≡ Pcp) → (hd.word ≡ lcp_word) ⊎ (hd.word ≡ pcp_word)
+      said (inl e) = inl (sym i.word ∙ ap word_of e)
+      said (inr e) = inr (sym i.word ∙ ap word_of e)

@@ -2,6 +2,7 @@
 use mathlib.Core.Path.{◌≡◌, refl, sym, ◌∙◌, ap}
 use mathlib.Core.List.{[], ◌∷◌, ◌++◌}
 use mathlib.Core.Option.{none, some}
+use mathlib.Core.Bool.{false}
 use Prim.Native.Nat.{ℕ, ◌+◌, ◌≤◌, ◌<◌}
 use native.Mathlib.Omega.{arith}
 use lib.ListN.{length, take, drop, length-append}
@@ -44,7 +45,7 @@ front-more s x y {a} {n} p q f g =
 
 -- what `state` makes
 abbrev pub Is : Accumulator → ℕ → ℕ → Type 0
-Is r a b = (r.len ≡ a) × (r.second ≡ b) × (r.over ≡ 0)
+Is r a b = (r.len ≡ a) × (r.second ≡ b) × (r.over ≡ false)
 
 pub empty-is : {r : Accumulator} → Is r 0 0 → (s : Bytes) → StAs empty s r
 unfolding text_of place behind full

@@ -5,20 +5,22 @@ use borrow.Author.Tests.{ltb-false}
 use mathlib.Core.Path.{◌≡◌, refl, sym, ap, ◌∙◌, subst}
 use mathlib.Core.List.{List, [], ◌∷◌, ◌++◌}
 use mathlib.Core.Option.{Option, none, some}
+use Rattle.std.specs.declared.option.Option.{Option as Optional}
+use Rattle.std.specs.declared.option.Option.TheVariants.{Some, None}
 use mathlib.Core.Bool.{Bool, true, false, not, false≢true}
 use mathlib.Core.Logic.{inr}
 use lib.ListN.{length, take, drop, get_or, length-take, length-append}
 use lib.Seq.{slice, sets, take-take, take-append_seam, drop-append_seam}
+use Rattle.std.specs.Bool.{then_some}
 use Rattle.semantics.specs.Bytes.{Bytes}
 use Rattle.semantics.specs.Ty.{t_any, Ty, base, t_list, t_map, t_node, t_relationship, t_union, line_to, line, joined, too_large}
 use Rattle.semantics.specs.Builtins.{element_of, list_or, resolve_return}
 use Rattle.ty.specs.Parts.{lines_of, TypeAt, TypeFrom}
-use Rattle.ty.specs.Union.{TypesAt, overlong, grown, Closing, Closed}
-use Rattle.ty.specs.declared.Grown.{Grown}
-use Rattle.ty.specs.declared.Grown.TheVariants.{Len, TooLarge}
+use Rattle.ty.specs.Union.{TypesAt, overlong, Closing, Closed}
+use Rattle.ty.specs.Made.{made}
 use Rattle.ty.specs.Read.{kind_of, ListLine}
 use Rattle.ty.proofs.KindLaws.{two_at, kind_at}
-use Rattle.builtins.specs.Rows.{return_of, Returned}
+use Rattle.builtins.specs.Rows.{Returned}
 use Rattle.builtins.proofs.Laws.{list-element, HandsBack, first-line, first-long, element-returned, element-other}
 use Rattle.unify_run.specs.Run.{sizes}
 use Rattle.unify_run.proofs.Size.{joined-sizes, line-two}
@@ -27,8 +29,7 @@ use Rattle.exprs.specs.State.{text_of, place, behind, full, ArmForm}
 use Rattle.exprs.specs.declared.state.Accumulator.{Accumulator}
 use Rattle.report.specs.declared.Tally.{Tally}
 use Rattle.report.proofs.ReportLaws.{adds_none}
-use Rattle.exprs.specs.declared.state.Ended.{Ended}
-use Rattle.exprs.specs.declared.state.Ended.TheVariants.{Typed, Large}
+use Rattle.exprs.specs.declared.state.Typed.{Typed}
 use Rattle.exprs.specs.End.{Puts, Ends, EndedAs, KeptAt, SomeArms, SomeLast}
 use Rattle.exprs.proofs.Fronts.{put-any, put-anys}
 
@@ -92,11 +93,11 @@ module _ {t : Ty} {s : Bytes} {st : Accumulator} (k : KeptAt (kept t) s st) wher
       element-long = first-long s el st.len (t ∷ []) (kept_at k) kept-some e z
 
       pub element-list : {s' : Bytes} → s' ≡ sets s 0 (slice 2 (2 + length el) s) → Returned s s' (element_of t) (length el)
-      unfolding resolve_return return_of
+      unfolding resolve_return
       element-list {s'} q = element-returned s s' el st.len (t ∷ []) (kept_at k) kept-some e z q
 
   pub element-any : {s' : Bytes} {r : ℕ} → (get_or s 0 0 ≡ 74 → ⊥) → Puts (65 ∷ 44 ∷ []) s s' r → Returned s s' (element_of t) r
-  unfolding resolve_return return_of
+  unfolding resolve_return
   element-any {s'} {r} d p = element-other s s' st.len r (t ∷ []) (kept_at k) (inr d) (omega (arith, k.wide)) p.end p.text
 
   pub slice-list : get_or s 0 0 ≡ 74 → Returned s s (list_or (base t_any) t) st.len
@@ -170,9 +171,9 @@ arms_at {ms} {s} {st} k =
       short = omega (arith, ltb-false 1024 (length (line (joined ms))) k.fine.1, (joined-sizes ms).0, sizes-lines ms);
     }
 
-pub case-arms : {s : Bytes} {st : Accumulator} (k : Kept) → ArmForm k → KeptAt k s st → (st.over ≡ 1 → ⊥) → ArmsAt k s st
+pub case-arms : {s : Bytes} {st : Accumulator} (k : Kept) → ArmForm k → KeptAt k s st → st.over ≡ false → ArmsAt k s st
 case-arms empty f k q = absurd f
-case-arms over f k q = absurd (q (unfold full in k.state.over))
+case-arms {st = st} over f k q = absurd (let z : st.over ≡ true = unfold full in k.state.over in cc)
 case-arms (kept t) f k q = absurd f
 case-arms (both a b) f k q = absurd f
 case-arms (items e) f k q = absurd f
@@ -180,7 +181,7 @@ case-arms (last e) f k q = absurd f
 case-arms (entries fs) f k q = absurd f
 case-arms (arms ms) f k q = arms_at k
 
-pub case-over : {s : Bytes} {st : Accumulator} (k : Kept) → ArmForm k → KeptAt k s st → st.over ≡ 1 → end_case k ≡ too_much
+pub case-over : {s : Bytes} {st : Accumulator} (k : Kept) → ArmForm k → KeptAt k s st → st.over ≡ true → end_case k ≡ too_much
 unfolding end_case
 case-over empty f k q = absurd f
 case-over over f k q = refl
@@ -189,45 +190,45 @@ case-over (both a b) f k q = absurd f
 case-over (items e) f k q = absurd f
 case-over (last e) f k q = absurd f
 case-over (entries fs) f k q = absurd f
-case-over {st = st} (arms ms) f k q = absurd (let z : st.over ≡ 0 = unfold full in k.state.over in omega arith)
+case-over {st = st} (arms ms) f k q = absurd (let z : st.over ≡ false = unfold full in k.state.over in cc)
 
-pub case-closing : {s : Bytes} {st : Accumulator} → SomeArms s st → (st.over ≡ 1 → ⊥) → Closing s st.len
+pub case-closing : {s : Bytes} {st : Accumulator} → SomeArms s st → st.over ≡ false → Closing s st.len
 case-closing {s} {st} p q =
     let a = case-arms p.is p.form p.at q in
     record { members = a.members; front = a.at; room = omega (arith, a.short, p.room) }
 
 -- an end that adds nothing
-quiet : {x : Told} {s s' out : Bytes} {n : Tally} {r : Ended} → EndedAs x s' out out n r → length s' ≡ length s → Ends x s s' out out n r
+quiet : {x : Told} {s s' out : Bytes} {n : Tally} {r : Optional Typed} → EndedAs x s' out out n r → length s' ≡ length s → Ends x s s' out out n r
 quiet a l = record { answer = a; long = l; as_long = refl }
 
-pub case-large : {s out : Bytes} {n : Tally} (k : Kept) {st : Accumulator} → ArmForm k → KeptAt k s st → st.over ≡ 1 → Ends (end_case k) s s out out n Large
+pub case-large : {s out : Bytes} {n : Tally} (k : Kept) {st : Accumulator} → ArmForm k → KeptAt k s st → st.over ≡ true → Ends (end_case k) s s out out n None
 case-large k f h q = rw (case-over k f h q) (quiet tt refl)
 
-module _ {s s' out : Bytes} {n : Tally} {st : Accumulator} {r : Grown} (c : Closed s s' st.len r) (q : st.over ≡ 1 → ⊥) (k : Kept) (f : ArmForm k) (h : KeptAt k s st) where
-  pub case-typed : {len : ℕ} → r ≡ Len len → Ends (end_case k) s s' out out n (Typed len n)
+module _ {s s' out : Bytes} {n : Tally} {st : Accumulator} {r : Optional ℕ} (c : Closed s s' st.len r) (q : st.over ≡ false) (k : Kept) (f : ArmForm k) (h : KeptAt k s st) where
+  pub case-typed : {len : ℕ} → r ≡ Some len → Ends (end_case k) s s' out out n (Some (record { len = len; tally = n }))
   unfolding end_case
   case-typed {len} e =
       let a = case-arms k f h q in
       let w = c a.members a.at in
       rw a.is (quiet (go (too_large (joined a.members)) (sym e ∙ w.answer)) w.text.long)
     where
-      go : (b : Bool) → Len len ≡ grown b (length (line (joined (case-arms k f h q).members)))
-          → EndedAs (elim b [ true ↦ too_much | false ↦ told (joined (case-arms k f h q).members) [] ]) s' out out n (Typed len n)
+      go : (b : Bool) → Some len ≡ made b (length (line (joined (case-arms k f h q).members)))
+          → EndedAs (elim b [ true ↦ too_much | false ↦ told (joined (case-arms k f h q).members) [] ]) s' out out n (Some (record { len = len; tally = n }))
       go true p = absurd (let z : ◌≡◌ {A = ℕ} 0 1 = cc in omega arith)
       go false p =
           let a = case-arms k f h q in
           let m : len ≡ length (line (joined a.members)) = cc in
           (rw m (c a.members a.at).text.front, adds_none)
 
-  pub case-too-large : r ≡ TooLarge → Ends (end_case k) s s' out out n Large
+  pub case-too-large : r ≡ None → Ends (end_case k) s s' out out n None
   unfolding end_case
   case-too-large e =
       let a = case-arms k f h q in
       let w = c a.members a.at in
       rw a.is (quiet (go (too_large (joined a.members)) (sym e ∙ w.answer)) w.text.long)
     where
-      go : (b : Bool) → TooLarge ≡ grown b (length (line (joined (case-arms k f h q).members)))
-          → EndedAs (elim b [ true ↦ too_much | false ↦ told (joined (case-arms k f h q).members) [] ]) s' out out n Large
+      go : (b : Bool) → None ≡ made b (length (line (joined (case-arms k f h q).members)))
+          → EndedAs (elim b [ true ↦ too_much | false ↦ told (joined (case-arms k f h q).members) [] ]) s' out out n None
       go true p = tt
       go false p = absurd (let z : ◌≡◌ {A = ℕ} 0 1 = cc in omega arith)
 
@@ -245,18 +246,25 @@ unfolding line
 last_line p = record { ty = t_list p.ty; rest = []; is = (last-at p.at).is }
 
 module _ {s out : Bytes} {n : Tally} {st : Accumulator} (b : Bool) (h : (t : Ty) → take (st.len + st.second) s ≡ line t → b ≡ not (too_large t)) (t : Ty) (k : KeptAt (last (some t)) s st) where
-  pub last-typed : b ≡ true → Ends (end_last (last (some t))) s s out out n (Typed (st.len + st.second) n)
+  last-typed : b ≡ true → Ends (end_last (last (some t))) s s out out n (Some (record { len = st.len + st.second; tally = n }))
   unfolding end_last
   last-typed e = quiet (go (too_large (t_list t)) (sym e ∙ h (t_list t) (last-at k).is)) refl
     where
-      go : (c : Bool) → true ≡ not c → EndedAs (elim c [ true ↦ too_much | false ↦ told (t_list t) [] ]) s out out n (Typed (st.len + st.second) n)
+      go : (c : Bool) → true ≡ not c → EndedAs (elim c [ true ↦ too_much | false ↦ told (t_list t) [] ]) s out out n (Some (record { len = st.len + st.second; tally = n }))
       go true q = absurd (false≢true (sym q))
       go false q = (last-at k, adds_none)
 
-  pub last-large : b ≡ false → Ends (end_last (last (some t))) s s out out n Large
+  last-large : b ≡ false → Ends (end_last (last (some t))) s s out out n None
   unfolding end_last
   last-large e = quiet (go (too_large (t_list t)) (sym e ∙ h (t_list t) (last-at k).is)) refl
     where
-      go : (c : Bool) → false ≡ not c → EndedAs (elim c [ true ↦ too_much | false ↦ told (t_list t) [] ]) s out out n Large
+      go : (c : Bool) → false ≡ not c → EndedAs (elim c [ true ↦ too_much | false ↦ told (t_list t) [] ]) s out out n None
       go true q = tt
       go false q = absurd (false≢true q)
+
+  pub last-ends : Ends (end_last (last (some t))) s s out out n (then_some b (record { len = st.len + st.second; tally = n }))
+  last-ends = go b refl
+    where
+      go : (c : Bool) → b ≡ c → Ends (end_last (last (some t))) s s out out n (then_some c (record { len = st.len + st.second; tally = n }))
+      go true e = last-typed e
+      go false e = last-large e

@@ -1,5 +1,6 @@
 -- The end of an expression: its type at the front of the work area, its own faults behind those of its children.
-use Rattle.std.specs.Prelude.{◌≡◌, List, ℕ, ◌+◌, ◌*◌, ◌<◌, ◌≤◌, ◌^◌, length}
+use Rattle.std.specs.Prelude.{◌≡◌, List, Some, None, ℕ, ◌+◌, ◌*◌, ◌<◌, ◌≤◌, ◌^◌, length}
+use Rattle.std.specs.declared.option.Option.{Option as Optional}
 use Rattle.std.proofs.Math.Option.{Option, none, some}
 use Rattle.std.proofs.lemmas.List.Edits.{sets}
 use Rattle.semantics.specs.Limits.{type_limit}
@@ -8,6 +9,7 @@ use Rattle.semantics.specs.Ty.{Ty}
 use Rattle.semantics.specs.Builtins.{signature}
 use Rattle.semantics.specs.Walk.{Fault, arg_faults}
 use Rattle.ty.specs.Parts.{TypeAt}
+use Rattle.builtins.specs.declared.Builtin.{Builtin}
 use Rattle.builtins.specs.Rows.{builtin_of, FirstAt}
 use Rattle.unify.specs.Work.{slots}
 use Rattle.report.specs.Report.{Adds}
@@ -15,17 +17,16 @@ use Rattle.report.specs.declared.Tally.{Tally}
 use Rattle.walk_run.specs.Run.{Kept, empty, kept, both, items, last, Told, told, too_much}
 use Rattle.exprs.specs.State.{StAs, FineKept, ArmForm}
 use Rattle.exprs.specs.declared.state.Accumulator.{Accumulator}
-use Rattle.exprs.specs.declared.state.Ended.{Ended}
-use Rattle.exprs.specs.declared.state.Ended.TheVariants.{Typed, Large}
+use Rattle.exprs.specs.declared.state.Typed.{Typed}
 
 -- the answer says what is told: the type stands at the front, its faults were added; or it is too large
-abbrev pub EndedAs : Told → Bytes → Bytes → Bytes → Tally → Ended → Type 0
-EndedAs (told t fs) s' out out' n (Typed len m) = TypeAt s' 0 len t × Adds fs out out' n m
-EndedAs (told t fs) s' out out' n Large = ⊥
-EndedAs too_much s' out out' n (Typed len m) = ⊥
-EndedAs too_much s' out out' n Large = Unit {0}
+abbrev pub EndedAs : Told → Bytes → Bytes → Bytes → Tally → Optional Typed → Type 0
+EndedAs (told t fs) s' out out' n (Some r) = TypeAt s' 0 r.len t × Adds fs out out' n r.tally
+EndedAs (told t fs) s' out out' n None = ⊥
+EndedAs too_much s' out out' n (Some r) = ⊥
+EndedAs too_much s' out out' n None = Unit {0}
 
-pub record Ends (x : Told) (s s' out out' : Bytes) (n : Tally) (r : Ended) : Type 0 where
+pub record Ends (x : Told) (s s' out out' : Bytes) (n : Tally) (r : Optional Typed) : Type 0 where
   pub answer : EndedAs x s' out out' n r
   pub long : length s' ≡ length s
   pub as_long : length out' ≡ length out
@@ -88,9 +89,9 @@ pub record Puts (x s s' : Bytes) (r : ℕ) : Type 0 where
   pub end : r ≡ length x
 
 -- the type t, whatever was added before
-abbrev pub Settles : Ty → Bytes → Bytes → Tally → Ended → Type 0
-Settles t s s' m r = (fs : List Fault) (out out' : Bytes) (n : Tally) → Adds fs out out' n m → Ends (told t fs) s s' out out' n r
+abbrev pub Settles : Ty → Bytes → Bytes → Tally → Typed → Type 0
+Settles t s s' m r = (fs : List Fault) (out out' : Bytes) (n : Tally) → Adds fs out out' n m → Ends (told t fs) s s' out out' n (Some r)
 
 -- the arguments were checked, of which the first stands at the front
-abbrev pub Checked : ℕ → Bytes → ℕ → Bytes → Bytes → Tally → Tally → Type 0
-Checked row s len out out' t t' = (ts : List Ty) → FirstAt s len ts → Adds (arg_faults (builtin_of row) (signature (builtin_of row)).params ts) out out' t t'
+abbrev pub Checked : Builtin → Bytes → ℕ → Bytes → Bytes → Tally → Tally → Type 0
+Checked b s len out out' t t' = (ts : List Ty) → FirstAt s len ts → Adds (arg_faults (builtin_of b) (signature (builtin_of b)).params ts) out out' t t'

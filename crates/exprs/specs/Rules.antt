@@ -1,60 +1,79 @@
--- The rules of words and the roles of children by their numbers, and what is ensured by them.
-use Rattle.std.specs.Prelude.{◌≡◌, List, [], ◌∷◌, cond, ℕ, eqb, length}
-use Rattle.semantics.specs.Codes.{comma}
+-- The rules of words and the roles of children as the code has them, and what is ensured by them.
+use Rattle.std.specs.Prelude.{◌≡◌, List, [], cond, ℕ, eqb, length, get_or}
+use Rattle.semantics.specs.Codes.{unknown_letter}
 use Rattle.semantics.specs.Bytes.{Bytes}
 use Rattle.semantics.specs.Ty.{Ty, line}
-use Rattle.semantics.specs.Sheet.{Word, Role, plain, condition, answer, inner, Typing, constant, var_type, element, slice as slicing, listing, mapping, calling, operator, unary, casing, membership, comprehension, Rule, silent, entering, typed, row, low, high, present, arm_roles}
-use Rattle.line.specs.Rows.{word_no}
+use Rattle.semantics.specs.Sheet.{plain, condition, answer, inner, Typing, constant, var_type, element, slice as slicing, listing, mapping, calling, operator, unary, casing, membership, comprehension, silent, entering, typed, row, low, high, present, arm_roles}
+use Rattle.semantics.specs.Sheet.{Rule as LineRule, Role as ChildRole}
+use Rattle.line.specs.Words.{word_of}
+use Rattle.line.specs.declared.words.Word.{Word}
 use Rattle.builtins.specs.Rows.{Returned}
 use Rattle.walk_run.specs.Run.{Kept, keep_two, keep_answer}
 use Rattle.exprs.specs.State.{StAs, ChildAt, FirstForm, ArmForm}
 use Rattle.exprs.specs.declared.state.Accumulator.{Accumulator}
+use Rattle.exprs.specs.declared.rule.Rule.{Rule}
+use Rattle.exprs.specs.declared.rule.Rule.TheVariants.{Constant, Variable, Element, Slice, Listing, Mapping, Call, Operator, Unary, Casing, Membership, Comprehension, Silent, Entry}
+use Rattle.exprs.specs.declared.role.Role.{Role}
+use Rattle.exprs.specs.declared.role.Role.TheVariants.{Plain, Condition, Answer}
 
--- ## Numbers of rules and roles
+-- ## Rules and roles
 
-unfoldable pub typing_no : Typing → ℕ
-typing_no (constant t) = 0
-typing_no var_type = 1
-typing_no element = 2
-typing_no slicing = 3
-typing_no listing = 4
-typing_no mapping = 5
-typing_no calling = 6
-typing_no operator = 7
-typing_no unary = 8
-typing_no casing = 9
-typing_no membership = 10
-typing_no comprehension = 11
+unfoldable pub typing_rule : Typing → Rule
+typing_rule (constant t) = Constant
+typing_rule var_type = Variable
+typing_rule element = Element
+typing_rule slicing = Slice
+typing_rule listing = Listing
+typing_rule mapping = Mapping
+typing_rule calling = Call
+typing_rule operator = Operator
+typing_rule unary = Unary
+typing_rule casing = Casing
+typing_rule membership = Membership
+typing_rule comprehension = Comprehension
 
-unfoldable pub rule_no : Rule → ℕ
-rule_no silent = 12
-rule_no entering = 13
-rule_no (typed q) = typing_no q
+unfoldable pub line_rule : LineRule → Rule
+line_rule silent = Silent
+line_rule entering = Entry
+line_rule (typed q) = typing_rule q
 
--- 1 must be a Bool, 2 counts for the answer, 0 any other
-unfoldable pub role_no : Role → ℕ
-role_no plain = 0
-role_no condition = 1
-role_no answer = 2
-role_no (inner p) = 0
+-- a condition must be a Bool, an answer counts for the type, any other child is only kept
+unfoldable pub child_role : ChildRole → Role
+child_role plain = Plain
+child_role condition = Condition
+child_role answer = Answer
+child_role (inner p) = Plain
 
 -- the roles under a CASE by its flag number and its count
-unfoldable pub case_row : ℕ → ℕ → List Role
+unfoldable pub case_row : ℕ → ℕ → List ChildRole
 case_row f k = present (low f) plain (arm_roles (cond (eqb (low f) 0) condition plain) k (present (high f) answer []))
 
--- ## What is ensured by a number
+-- ## What is ensured by a rule or a role
 
 -- the first two are kept; of a CASE the answers
 abbrev pub TwoKept : Accumulator → ℕ → Accumulator → Type 0
 TwoKept st n r = (s : Bytes) (k : Kept) (t : Ty) → FirstForm k → ChildAt k t s st n → StAs (keep_two k t) s r
 
-pub record AnswerKept (i : ℕ) (s s' : Bytes) (st : Accumulator) (n : ℕ) (r : Accumulator) : Type 0 where
+pub record AnswerKept (i : Role) (s s' : Bytes) (st : Accumulator) (n : ℕ) (r : Accumulator) : Type 0 where
   pub long : length s' ≡ length s
-  pub kept : (p : Role) (k : Kept) (t : Ty) → i ≡ role_no p → ArmForm k → ChildAt k t s st n → StAs (keep_answer p k t) s' r
+  pub kept : (p : ChildRole) (k : Kept) (t : Ty) → i ≡ child_role p → ArmForm k → ChildAt k t s st n → StAs (keep_answer p k t) s' r
 
--- a constant of one letter
-abbrev pub LetterBy : ℕ → ℕ → Type 0
-LetterBy w r = (v : Word) (t : Ty) → w ≡ word_no v → (row v).rule ≡ typed (constant t) → (w ≡ 51 → ⊥) → r ∷ comma ∷ [] ≡ line t
+-- the first letter of a constant's type; Unknown's for any other rule
+unfoldable pub letter_of : LineRule → ℕ
+letter_of silent = unknown_letter
+letter_of entering = unknown_letter
+letter_of (typed (constant t)) = get_or (line t) 0 unknown_letter
+letter_of (typed var_type) = unknown_letter
+letter_of (typed element) = unknown_letter
+letter_of (typed slicing) = unknown_letter
+letter_of (typed listing) = unknown_letter
+letter_of (typed mapping) = unknown_letter
+letter_of (typed calling) = unknown_letter
+letter_of (typed operator) = unknown_letter
+letter_of (typed unary) = unknown_letter
+letter_of (typed casing) = unknown_letter
+letter_of (typed membership) = unknown_letter
+letter_of (typed comprehension) = unknown_letter
 
-abbrev pub ConstantBy : ℕ → Bytes → Bytes → ℕ → Type 0
-ConstantBy w s s' r = (v : Word) (t : Ty) → w ≡ word_no v → (row v).rule ≡ typed (constant t) → Returned s s' t r
+abbrev pub ConstantBy : Word → Bytes → Bytes → ℕ → Type 0
+ConstantBy w s s' r = (t : Ty) → (row (word_of w)).rule ≡ typed (constant t) → Returned s s' t r

@@ -1,5 +1,6 @@
 -- What an expression keeps of its children, as it stands at the front of the work area.
-use Rattle.std.specs.Prelude.{◌≡◌, [], ◌∷◌, ◌++◌, map, true, false, ℕ, ◌+◌, ◌*◌, ◌≤◌, length, take}
+use Rattle.std.specs.Prelude.{◌≡◌, [], ◌∷◌, ◌++◌, map, Bool, true, false, Some, None, ℕ, ◌+◌, ◌*◌, ◌≤◌, length, take}
+use Rattle.std.specs.declared.option.Option.{Option as Optional}
 use Rattle.std.proofs.Math.Option.{Option, none, some}
 use Rattle.semantics.specs.Limits.{type_limit}
 use Rattle.semantics.specs.Codes.{comma, list_letter}
@@ -11,8 +12,6 @@ use Rattle.ty.specs.Union.{overlong}
 use Rattle.unify.specs.Work.{slots}
 use Rattle.walk_run.specs.Run.{Kept, empty, over, kept, both, items, last, entries, arms, unless_large, keep_item, keep_entry, keep_arm}
 use Rattle.exprs.specs.declared.state.Accumulator.{Accumulator}
-use Rattle.exprs.specs.declared.state.Keep.{Keep}
-use Rattle.exprs.specs.declared.state.Keep.TheVariants.{On, Large}
 
 -- `J,` and a type, or none yet
 abbrev pub list_text : Option Ty → Bytes
@@ -56,16 +55,16 @@ behind (last e) = option_long e
 behind (entries fs) = 0
 behind (arms ms) = 0
 
--- 1 for a CASE that is too large
-unfoldable pub full : Kept → ℕ
-full empty = 0
-full over = 1
-full (kept t) = 0
-full (both s t) = 0
-full (items e) = 0
-full (last e) = 0
-full (entries fs) = 0
-full (arms ms) = 0
+-- a CASE that is too large
+unfoldable pub full : Kept → Bool
+full empty = false
+full over = true
+full (kept t) = false
+full (both s t) = false
+full (items e) = false
+full (last e) = false
+full (entries fs) = false
+full (arms ms) = false
 
 pub record StAs (k : Kept) (s : Bytes) (st : Accumulator) : Type 0 where
   pub len : st.len ≡ place k
@@ -132,13 +131,13 @@ pub record LastChild (t : Ty) (s : Bytes) (st : Accumulator) (n : ℕ) : Type 0 
 
 -- ## After a child
 
-abbrev pub KeepAs : Option Kept → Bytes → Keep → Type 0
-KeepAs none s (On st) = ⊥
-KeepAs none s Large = Unit {0}
-KeepAs (some k) s (On st) = StAs k s st
-KeepAs (some k) s Large = ⊥
+abbrev pub KeepAs : Option Kept → Bytes → Optional Accumulator → Type 0
+KeepAs none s (Some st) = ⊥
+KeepAs none s None = Unit {0}
+KeepAs (some k) s (Some st) = StAs k s st
+KeepAs (some k) s None = ⊥
 
-pub record Keeps (k : Option Kept) (s s' : Bytes) (r : Keep) : Type 0 where
+pub record Keeps (k : Option Kept) (s s' : Bytes) (r : Optional Accumulator) : Type 0 where
   pub kept : KeepAs k s' r
   pub long : length s' ≡ length s
 
@@ -150,7 +149,7 @@ pub record SomeList (s : Bytes) (len : ℕ) : Type 0 where
   pub at : TypeAt s 0 len (t_list element)
 
 -- it is kept unless it is too large
-abbrev pub ListKept : Bytes → ℕ → Keep → Type 0
+abbrev pub ListKept : Bytes → ℕ → Optional Accumulator → Type 0
 ListKept s len r = (t : Ty) → TypeAt s 0 len (t_list t) → KeepAs (unless_large (t_list t) (items (some t))) s r
 
 -- `J,` at the front, and room for two bytes more
@@ -170,7 +169,7 @@ pub record SomeItem (s : Bytes) (st : Accumulator) (n : ℕ) : Type 0 where
   pub room : ItemRoom before ty s (st.len + n)
   pub wide : type_limit ≤ length s
 
-abbrev pub ItemKept : Bytes → Bytes → Accumulator → ℕ → Keep → Type 0
+abbrev pub ItemKept : Bytes → Bytes → Accumulator → ℕ → Optional Accumulator → Type 0
 ItemKept s s' st n r = (e : Option Ty) (t : Ty) → ChildAt (items e) t s st n → Keeps (keep_item (items e) t) s s' r
 
 -- ## An entry of a map, its name spelt x
@@ -183,7 +182,7 @@ pub record SomeEntry (s : Bytes) (st : Accumulator) (n : ℕ) (x : Bytes) : Type
   pub spelt : x ≡ map hex name
   pub wide : type_limit ≤ length s
 
-abbrev pub EntryKept : Bytes → Bytes → Accumulator → ℕ → Bytes → Keep → Type 0
+abbrev pub EntryKept : Bytes → Bytes → Accumulator → ℕ → Bytes → Optional Accumulator → Type 0
 EntryKept s s' st n x r = (fs : Fields) (t : Ty) (m : Bytes) → ChildAt (entries fs) t s st n → x ≡ map hex m → Keeps (keep_entry (entries fs) m t) s s' r
 
 -- ## An arm of a CASE

@@ -4,15 +4,15 @@ ghost use Rattle.std.proofs.Math.Option.{none, some};
 ghost use Rattle.semantics.specs.Limits.{type_limit};
 ghost use Rattle.semantics.specs.Bytes.{Bytes};
 ghost use Rattle.semantics.specs.Ty.{Ty};
-ghost use Rattle.semantics.specs.Sheet.{Role, plain, condition, present};
+ghost use Rattle.semantics.specs.Sheet.{Role as ChildRole, plain, condition, present};
 ghost use Rattle.walk_run.specs.Run.{last, end_last};
 ghost use Rattle.exprs.specs.State.{StAs, LastChild};
 ghost use Rattle.exprs.specs.End.{Ends, KeptAt, SomeLast};
-ghost use Rattle.exprs.specs.Rules.{role_no};
+ghost use Rattle.exprs.specs.Rules.{child_role};
 
 use crate::list::start_list;
-use crate::role::{CONDITION, PLAIN};
-use crate::state::{Accumulator, Ended, state};
+use crate::role::Role;
+use crate::state::{Accumulator, Typed, state};
 use report::Tally;
 
 // `J,`, as for a list.
@@ -24,13 +24,17 @@ pub fn start_comprehension(work: &mut [u8]) -> Accumulator
 }
 
 // The role of the j-th child: a first one, a condition by the bit, a last.
-pub fn comprehension_role(bit: u64, j: usize) -> usize
-    ensures { (p : Role) → role_no p ≡ 0 → bit ≤ 1 → result ≡ role_no (get_or (p ∷ present bit condition (plain ∷ [])) j plain) }
+pub fn comprehension_role(bit: u64, j: usize) -> Role
+    ensures { (p : ChildRole) → child_role p ≡ Role.Plain → bit ≤ 1 → result ≡ child_role (get_or (p ∷ present bit condition (plain ∷ [])) j plain) }
 {
     if j == 0 {
-        return PLAIN;
+        return Role::Plain;
     }
-    if j as u64 > bit { PLAIN } else { CONDITION }
+    if j as u64 > bit {
+        Role::Plain
+    } else {
+        Role::Condition
+    }
 }
 
 // The last child's type in place of the one before.
@@ -41,13 +45,10 @@ pub fn comprehension_child(st: Accumulator, n: usize) -> Accumulator
 }
 
 // The list of the last child's type.
-pub fn end_comprehension(st: Accumulator, work: &[u8], out: &[u8], tally: Tally) -> Ended
+pub fn end_comprehension(st: Accumulator, work: &[u8], out: &[u8], tally: Tally) -> Option<Typed>
     requires { SomeLast work.now st }
     ensures { (t : Ty) → KeptAt (last (some t)) work.now st → Ends (end_last (last (some t))) work.now work.now out.now out.now tally result }
 {
     let n = st.len + st.second;
-    if ty::fits(&work[..n]) {
-        return Ended::Typed { len: n, tally };
-    }
-    Ended::Large
+    ty::fits(&work[..n]).then_some(Typed { len: n, tally })
 }

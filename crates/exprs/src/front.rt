@@ -5,7 +5,7 @@ ghost use Rattle.semantics.specs.Codes.{comma};
 ghost use Rattle.semantics.specs.Ty.{t_bool, base};
 ghost use Rattle.exprs.specs.End.{Puts, Settles};
 
-use crate::state::Ended;
+use crate::state::Typed;
 use report::Tally;
 use text::COMMA;
 use ty::BOOL;
@@ -33,11 +33,11 @@ pub fn put_pair(work: &mut [u8], a: u8, b: u8) -> usize
 }
 
 // Bool at the front.
-pub fn is_bool(work: &mut [u8], tally: Tally) -> Ended
+pub fn is_bool(work: &mut [u8], tally: Tally) -> Typed
     requires { type_limit ≤ length work.old }
     ensures { Settles (base t_bool) work.old work.new tally result }
 {
-    Ended::Typed {
+    Typed {
         len: put_letter(work, BOOL),
         tally,
     }

@@ -23,10 +23,7 @@ pub use index::{end_index, end_slice};
 pub use leaf::constant;
 pub use list::{end_list, list_item, start_list};
 pub use map::{map_value, start_map};
-pub use role::CONDITION;
-pub use rule::{
-    CALL, CASING, COMPREHENSION, CONSTANT, ELEMENT, LISTING, MAPPING, MEMBERSHIP, OPERATOR, SLICE,
-    UNARY, VARIABLE, role_of, rule_of,
-};
-pub use state::{Accumulator, Ended, Keep, keep_first, keep_two, start_empty};
+pub use role::Role;
+pub use rule::{Rule, role_of, rule_of};
+pub use state::{Accumulator, Typed, keep_first, keep_two, start_empty};
 pub use variable::var_type;

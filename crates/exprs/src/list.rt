@@ -9,10 +9,10 @@ ghost use Rattle.exprs.specs.State.{StAs, Keeps, SomeList, ListKept, Headed, Som
 ghost use Rattle.exprs.specs.End.{KeptAt, SomeItems};
 
 use crate::front::{put_letter, put_pair};
-use crate::state::{Accumulator, Keep, state};
+use crate::state::{Accumulator, state};
 use text::COMMA;
 use ty::{ANY, LIST};
-use unify::Unified;
+use unify::{Span, UnifyError};
 
 // `J,` for a list and for a comprehension.
 pub fn start_list(work: &mut [u8]) -> Accumulator
@@ -23,28 +23,25 @@ pub fn start_list(work: &mut [u8]) -> Accumulator
 }
 
 // A list of `len` bytes at the front, tested.
-fn fitted(work: &[u8], len: usize) -> Keep
+fn fitted(work: &[u8], len: usize) -> Option<Accumulator>
     requires { SomeList work.now len }
     ensures { ListKept work.now len result }
 {
-    if ty::fits(&work[..len]) {
-        return Keep::On(state(len, 0));
-    }
-    Keep::Large
+    ty::fits(&work[..len]).then_some(state(len, 0))
 }
 
 // `J,A,`: the items have no type in common.
-fn any_items(work: &mut [u8]) -> Keep
+fn any_items(work: &mut [u8]) -> Accumulator
     requires { Headed work.old }
-    ensures { Keeps (some (items (some (base t_any)))) work.old work.new result }
+    ensures { Keeps (some (items (some (base t_any)))) work.old work.new (Some result) }
 {
     work[2] = ANY;
     work[3] = COMMA;
-    Keep::On(state(4, 0))
+    state(4, 0)
 }
 
 // An item of a list, behind the running element.
-pub fn list_item(st: Accumulator, work: &mut [u8], n: usize) -> Keep
+pub fn list_item(st: Accumulator, work: &mut [u8], n: usize) -> Option<Accumulator>
     requires { SomeItem work.old st n }
     ensures { ItemKept work.old work.new st n result }
 {
@@ -53,16 +50,13 @@ pub fn list_item(st: Accumulator, work: &mut [u8], n: usize) -> Keep
     if k == 2 {
         return fitted(work, e);
     }
-    match unify::unify(work, 2, k, k, e, e) {
-        Unified::Done(end) => {
+    match unify::unify(work, Span { from: 2, to: k }, Span { from: k, to: e }, e) {
+        Ok(end) => {
             text::copy_in(work, e, 2, end - e);
             fitted(work, 2 + (end - e))
         }
-        Unified::Mismatch {
-            expected: _,
-            actual: _,
-        } => any_items(work),
-        Unified::TooLarge => Keep::Large,
+        Err(UnifyError::Mismatch { .. }) => Some(any_items(work)),
+        Err(UnifyError::TooLarge) => None,
     }
 }
 

@@ -6,8 +6,8 @@ ghost use Rattle.walk_run.specs.Run.{entries};
 ghost use Rattle.exprs.specs.State.{StAs, SomeEntry, EntryKept};
 
 use crate::front::put_pair;
-use crate::state::{Accumulator, Keep, state};
-use ty::{CLOSE, Grown, MAP};
+use crate::state::{Accumulator, state};
+use ty::{CLOSE, MAP};
 
 // The map with no entries.
 pub fn start_map(work: &mut [u8]) -> Accumulator
@@ -18,13 +18,11 @@ pub fn start_map(work: &mut [u8]) -> Accumulator
 }
 
 // An entry of a map, its name in hexadecimal digits.
-pub fn map_value(st: Accumulator, work: &mut [u8], n: usize, name: &[u8]) -> Keep
+pub fn map_value(st: Accumulator, work: &mut [u8], n: usize, name: &[u8]) -> Option<Accumulator>
     requires { SomeEntry work.old st n name.now }
     ensures { EntryKept work.old work.new st n name.now result }
 {
     let k = st.len;
-    match ty::put_entry(work, k, k + n, name) {
-        Grown::Len(r) => Keep::On(state(r, 0)),
-        Grown::TooLarge => Keep::Large,
-    }
+    let len = ty::put_entry(work, k, k + n, name)?;
+    Some(state(len, 0))
 }

@@ -1,5 +1,5 @@
 // What an expression keeps of its children, at the front of its part of the work area (specs/State.antt), and how it ends.
-ghost use Rattle.std.specs.Prelude.{◌≡◌};
+ghost use Rattle.std.specs.Prelude.{◌≡◌, false};
 ghost use Rattle.semantics.specs.Bytes.{Bytes};
 ghost use Rattle.semantics.specs.Ty.{Ty};
 ghost use Rattle.walk_run.specs.Run.{Kept, keep_first, empty, kept, both};
@@ -8,35 +8,28 @@ ghost use Rattle.exprs.specs.Rules.{TwoKept};
 
 use report::Tally;
 
-// The kept text is `len` long up to where the next child's type goes, and `second` behind that; `over` is 1 once a CASE is too large.
+// The kept text is `len` long up to where the next child's type goes, and `second` behind that; `over` says that a CASE is too large.
 #[derive(Drop)]
 pub struct Accumulator {
     pub len: usize,
     pub second: usize,
-    pub over: usize,
+    pub over: bool,
 }
 
-// What is kept now, or that it is too large.
+// The type of an expression: the first `len` bytes of the work area, and the counts of the output behind its faults.
 #[derive(Drop)]
-pub enum Keep {
-    On(Accumulator),
-    Large,
-}
-
-// The type is the first `len` bytes; or it is too large.
-#[derive(Drop)]
-pub enum Ended {
-    Typed { len: usize, tally: Tally },
-    Large,
+pub struct Typed {
+    pub len: usize,
+    pub tally: Tally,
 }
 
 pub fn state(len: usize, second: usize) -> Accumulator
-    ensures { (result.len ≡ len) × (result.second ≡ second) × (result.over ≡ 0) }
+    ensures { (result.len ≡ len) × (result.second ≡ second) × (result.over ≡ false) }
 {
     Accumulator {
         len,
         second,
-        over: 0,
+        over: false,
     }
 }
 

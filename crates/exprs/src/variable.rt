@@ -3,29 +3,23 @@ ghost use Rattle.std.specs.Prelude.{◌≡◌, ◌≤◌, length};
 ghost use Rattle.semantics.specs.Limits.{type_limit};
 ghost use Rattle.semantics.specs.Walk.{kind_type};
 ghost use Rattle.ty.specs.Parts.{TypeAt};
+ghost use Rattle.line.specs.Kinds.{kind_no};
 ghost use Rattle.hir.specs.Bind.{BindsAt, kind_of};
 
 use crate::front::{put_letter, put_pair};
-use line::VarId;
+use line::{VarId, VarKind};
 use ty::{ANY, CLOSE, NODE, PATH, RELATIONSHIP};
 
-// Kinds of bindings (`VarKind`); any other is a value's, or none.
-const NODE_KIND: u64 = 0;
-
-const RELATIONSHIP_KIND: u64 = 1;
-
-const PATH_KIND: u64 = 2;
-
 // The type by the kind of the binding.
-fn kind_type(kind: u64, work: &mut [u8]) -> usize
+fn kind_type(kind: VarKind, work: &mut [u8]) -> usize
     requires { type_limit ≤ length work.old }
-    ensures { TypeAt work.new 0 result (kind_type kind) × (length work.new ≡ length work.old) }
+    ensures { TypeAt work.new 0 result (kind_type (kind_no kind)) × (length work.new ≡ length work.old) }
 {
     match kind {
-        NODE_KIND => put_pair(work, NODE, CLOSE),
-        RELATIONSHIP_KIND => put_pair(work, RELATIONSHIP, CLOSE),
-        PATH_KIND => put_letter(work, PATH),
-        _ => put_letter(work, ANY),
+        VarKind::Node => put_pair(work, NODE, CLOSE),
+        VarKind::Relationship => put_pair(work, RELATIONSHIP, CLOSE),
+        VarKind::Path => put_letter(work, PATH),
+        VarKind::Value => put_letter(work, ANY),
     }
 }
 

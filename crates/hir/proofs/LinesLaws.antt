@@ -15,11 +15,10 @@ use Rattle.semantics.specs.Walk.{Env, walk}
 use Rattle.semantics.proofs.All.{All, empty, also}
 use Rattle.semantics.proofs.Words.{holds, named, each, kids-each}
 use Rattle.semantics.proofs.Split.{split-inj}
-use Rattle.line.specs.Line.{Plain, unknown, known, word_says, pieces_say, line_says, placed, HeadIs, SaysAs, ReadAs}
-use Rattle.line.specs.declared.line.Head.{Head as Seen}
+use Rattle.line.specs.Line.{Plain, unknown, known, word_says, pieces_say, line_says, placed}
 use Rattle.line.proofs.ReadLaws.{placed-line, fill-word}
 use Rattle.line.proofs.LineLaws.{split-some}
-use Rattle.line.proofs.KnownLaws.{same_place, bind-fields}
+use Rattle.line.proofs.KnownLaws.{bind-fields}
 use Rattle.line.proofs.FillLaws.{Says, says, faulty, a_letter, a_variable, value-at}
 use Rattle.hir.specs.Run.{Run, stopped, passed, before, carry_on, at_end, run, add_all, finish}
 use Rattle.hir.proofs.RunLaws.{check-run}
@@ -219,17 +218,6 @@ sheet-lines d s hs e =
     let z : drop p.end s ≡ [] = split-inj 10 (drop p.end s) [] p.left in
     let q : p.end ≡ length s = omega (arith, p.inside, length-drop p.end s, ap length z) in
     (rw q at p.lines, p.met)
-
--- ## What is read at a position
-
-pub read_at : (s : Bytes) (p q : ℕ) (h : Head) (r : Seen) → LineAt s p h q → ReadAs s p r (split 10 (drop p s)) → HeadIs s r h × (r.next ≡ q)
-read_at s p q h r a x = go (split 10 (drop q s)) refl (split-some 10 (drop q s)) (rw a.stands at x)
-  where
-    go : (ms : List Bytes) → split 10 (drop q s) ≡ ms → 0 < length ms → ReadAs s p r (a.text ∷ ms) → HeadIs s r h × (r.next ≡ q)
-    go [] d l y = absurd (omega arith)
-    go (m ∷ ms) d l y =
-        let z : SaysAs s r (known h.word (ok h)) = rw a.says at y.3 in
-        (z.1, same_place s r.next q y.2 a.inside (sym y.0 ∙ sym d))
 
 -- ## Trees
 

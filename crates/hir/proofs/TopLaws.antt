@@ -1,6 +1,7 @@
 -- The top of a sheet: its bindings, its clauses, its end. Assumes nothing.
 use mathlib.Core.Path.{◌≡◌, refl, sym, ◌∙◌, ap, subst}
 use mathlib.Core.List.{List, [], ◌∷◌, ◌++◌, append-nil}
+use mathlib.Core.Logic.{inl, inr}
 use mathlib.Core.Bool.{Bool, true, false, not, ◌&&◌}
 use Prim.Native.Nat.{ℕ, suc, ◌+◌, ◌-◌, ◌≤◌, ◌<◌}
 use native.Mathlib.Numerals.{add-one}
@@ -9,22 +10,27 @@ use lib.Dec.{eqb, ltb, leb}
 use lib.ListN.{length, drop, length-drop, length-append}
 use borrow.Author.Tests.{eqb-true, eqb-false, ltb-true, ltb-false, leb-true, ne_eqb, eq-eqb, le-ltb, lt-ltb, le-leb, lt-leb}
 use Rattle.semantics.specs.Bytes.{Bytes, front, split}
-use Rattle.semantics.specs.Sheet.{kids, Word, Shape, nothing, Head, variable_of, Read, bad, ok, Want, first, clauses, bindings, deeper, row, rank, place, roles, fits, beyond, after, under, Sheet, refused, heads, add, check}
+use Rattle.semantics.specs.Sheet.{kids, Word, Shape, nothing, clause_place, Head, variable_of, Read, bad, ok, Want, first, clauses, bindings, deeper, row, rank, place, roles, fits, beyond, after, under, Sheet, refused, heads, add, check}
 use Rattle.semantics.proofs.Words.{every-where}
-use Rattle.line.specs.Rows.{word_no}
+use Rattle.std.specs.Prelude.{Result, Ok, Err}
+use Rattle.semantics.specs.Refusals.{number_of}
+use Rattle.semantics.specs.declared.refusals.Refusal.{Refusal}
+use Rattle.semantics.specs.declared.refusals.Refused.{Refused}
+use Rattle.line.specs.Words.{word_of}
 use Rattle.line.specs.Line.{Plain, unknown, known, line_says, placed, SaysAs, ReadAs}
 use Rattle.line.specs.declared.line.Head.{Head as Seen}
+use Rattle.line.specs.declared.line.BadLine.{BadLine}
 use Rattle.line.specs.declared.line.HirId.{HirId}
 use Rattle.line.proofs.ReadLaws.{placed-line}
 use Rattle.line.proofs.LineLaws.{split-some}
 use Rattle.hir.specs.Run.{Run, stopped, passed, before, carry_on, at_end, run, behind, and_go, add_all, finish}
 use Rattle.hir.specs.Kids.{kid_wants}
 use Rattle.hir.specs.Lines.{LineAt, Lines, no_line, a_line, Ascends, no_binding, ascends}
-use Rattle.hir.specs.Check.{pick_e, verdict_of, FineAs, ChecksAs, KidsAsk, TopAsk, BoundAs, end_of, ClausesAs}
-use Rattle.hir.specs.declared.valid.Check.{Check}
-use Rattle.hir.specs.declared.valid.Check.TheVariants.{Fine, Refused}
+use Rattle.hir.specs.Check.{class_of, Refuses, elsewhere, wrong, deep, FineAs, KidsAsk, TopAsk, BoundAs, GoodAs, EndAs, ClausesAs}
+use Rattle.hir.specs.declared.valid.Next.{Next}
+use Rattle.hir.proofs.CheckLaws.{kid_run}
 use Rattle.hir.proofs.RunLaws.{behind-none, behind-append, before-behind, run-append, run_none, check-run}
-use Rattle.hir.proofs.PlaceLaws.{class_of, Fit, line-unfit, line-wrong, line-fit, class-is, class-word, kids-of, carry-bad, carry-ok}
+use Rattle.hir.proofs.PlaceLaws.{Fit, line-unfit, line-wrong, line-fit, class-is, class-said, kids-of, carry-bad, carry-ok}
 
 -- ## Lines that hold no others
 
@@ -74,45 +80,46 @@ fits-other levels v q ne = ap (λ (b : Bool). b && leb q 3) (one-or-two q ne)
 abbrev if_fit : Bool → Read → Read
 if_fit b r = elim b [ true ↦ r | false ↦ bad 3 ]
 
-placed-other : (levels : ℕ) (s : Bytes) (k : Seen) (v : ℕ) → (class_of k ≡ 1 → ⊥) → (x : Plain) → SaysAs s k x → placed (bindings v levels) x ≡ placed (clauses levels) x
+placed-other : (levels : ℕ) (s : Bytes) (x : Result Seen BadLine) (v : ℕ) → (class_of x ≡ 1 → ⊥) → (y : Plain) → SaysAs s x y → placed (bindings v levels) y ≡ placed (clauses levels) y
 unfolding placed
-placed-other levels s k v ne unknown y = refl
-placed-other levels s k v ne (known u (bad c)) y = ap (λ (b : Bool). if_fit b (bad c)) (fits-other levels v (rank (row u).place) (λ d. ne (class-word k u y.0 ∙ d)))
-placed-other levels s k v ne (known u (ok h)) y =
-    let e : k.word ≡ word_no u = y.1.word ∙ ap word_no (sym y.0) in
-    ap (λ (b : Bool). if_fit b (beyond (bindings v levels) h)) (fits-other levels v (rank (row u).place) (λ d. ne (class-word k u e ∙ d)))
+placed-other levels s x v ne unknown y = refl
+placed-other levels s x v ne (known u (bad c)) y = ap (λ (b : Bool). if_fit b (bad c)) (fits-other levels v (rank (row u).place) (λ d. ne (class-said s x u (bad c) y ∙ d)))
+placed-other levels s (Ok k) v ne (known u (ok h)) y =
+    ap (λ (b : Bool). if_fit b (beyond (bindings v levels) h)) (fits-other levels v (rank (row u).place) (λ d. ne (class-said s (Ok k) u (ok h) y ∙ d)))
     ∙ ap (if_fit (fits (clauses levels) (rank (row u).place))) (beyond-other levels v h (λ d. ne (class-is s k h y.1 ∙ d)))
+placed-other levels s (Err b) v ne (known u (ok h)) y = elim y [ ]
 
-module _ (levels : ℕ) (s : Bytes) (p : ℕ) (k : Seen) (n v : ℕ) (ls : List Bytes) (r : ReadAs s p k ls) where
-  -- no binding: a clause, or the end
-  pub binds-none : (class_of k ≡ 1 → ⊥) → run (bindings v levels ∷ []) n ls ≡ run (clauses levels ∷ []) n ls
-  unfolding run at_end under
-  binds-none ne = go ls r
-    where
-      same : (x : Plain) → SaysAs s k x → placed (bindings v levels) x ≡ placed (clauses levels) x
-      same = placed-other levels s k v ne
+-- no binding: a clause, or the end
+pub binds-none : (levels : ℕ) (s : Bytes) (p : ℕ) (x : Result Seen BadLine) (n v : ℕ) (ls : List Bytes) → ReadAs s p x ls → (class_of x ≡ 1 → ⊥) → run (bindings v levels ∷ []) n ls ≡ run (clauses levels ∷ []) n ls
+unfolding run at_end under
+binds-none levels s p x n v ls r ne = go ls r
+  where
+    go : (ls : List Bytes) → ReadAs s p x ls → run (bindings v levels ∷ []) n ls ≡ run (clauses levels ∷ []) n ls
+    go [] r = refl
+    go (l ∷ []) r = refl
+    go (l ∷ l' ∷ ls) r =
+        ap (λ (y : Read). carry_on n y (λ h. run (under (clauses levels) h ++ []) (suc n) (l' ∷ ls)))
+        (placed-line (bindings v levels) l ∙ placed-other levels s x v ne (line_says l) r.3 ∙ sym (placed-line (clauses levels) l))
 
-      go : (ls : List Bytes) → ReadAs s p k ls → run (bindings v levels ∷ []) n ls ≡ run (clauses levels ∷ []) n ls
-      go [] r = refl
-      go (l ∷ []) r = refl
-      go (l ∷ l' ∷ ls) r = ap (λ (x : Read). carry_on n x (λ h. run (under (clauses levels) h ++ []) (suc n) (l' ∷ ls))) (placed-line (bindings v levels) l ∙ same (line_says l) r.3 ∙ sym (placed-line (clauses levels) l))
+fits-binding : (v levels c : ℕ) → c ≡ 1 → fits (bindings v levels) c ≡ true
+unfolding fits
+fits-binding v levels c e = rw e
 
-  fits-binding : class_of k ≡ 1 → fits (bindings v levels) (class_of k) ≡ true
-  unfolding fits
-  fits-binding e = rw e
+pub binds-wrong : (levels : ℕ) (s : Bytes) (p : ℕ) (b : BadLine) (n v : ℕ) (ls : List Bytes) → ReadAs s p (Err b) ls → class_of (Err b) ≡ 1 → run (bindings v levels ∷ []) n ls ≡ stopped (number_of b.why) n
+binds-wrong levels s p b n v ls r e = line-wrong s p (bindings v levels) [] n b ls r (fits-binding v levels (class_of (Err b)) e)
 
-  pub binds-wrong : class_of k ≡ 1 → (k.why ≡ 0 → ⊥) → run (bindings v levels ∷ []) n ls ≡ stopped k.why n
-  binds-wrong e ne = line-wrong s p k (bindings v levels) [] n ls r (fits-binding e) ne
+module _ (levels : ℕ) (s : Bytes) (p : ℕ) (k : Seen) (n v : ℕ) (ls : List Bytes) (r : ReadAs s p (Ok k) ls) (e : class_of (Ok k) ≡ 1) where
+  binding-fit : Fit s p k (bindings v levels) [] n ls
+  binding-fit = line-fit s p (bindings v levels) [] n k ls r (fits-binding v levels (class_of (Ok k)) e)
 
-  binding-fit : class_of k ≡ 1 → k.why ≡ 0 → Fit s p k (bindings v levels) [] n ls
-  binding-fit e z = line-fit s p k (bindings v levels) [] n ls r (fits-binding e) z
+  binding-one : rank (place binding-fit.head) ≡ 1
+  binding-one = sym (class-is s k binding-fit.head binding-fit.is) ∙ e
 
-  pub binds-low : class_of k ≡ 1 → k.why ≡ 0 → k.var.0 < v → run (bindings v levels ∷ []) n ls ≡ stopped 3 n
+  pub binds-low : k.var.0 < v → run (bindings v levels ∷ []) n ls ≡ stopped 3 n
   unfolding beyond
-  binds-low e z l =
-      let f = binding-fit e z in
-      let q : rank (place f.head) ≡ 1 = sym (class-is s k f.head f.is) ∙ e in
-      f.same ∙ ap (λ (x : Read). carry_on n x (λ h. run (under (bindings v levels) h ++ []) (suc n) (split 10 (drop k.next s)))) (rw (q, lt-ltb (variable_of f.head) v (omega (arith, f.is.var)), beyond)) ∙ carry-bad n 3 _
+  binds-low l =
+      let f = binding-fit in
+      f.same ∙ ap (λ (x : Read). carry_on n x (λ h. run (under (bindings v levels) h ++ []) (suc n) (split 10 (drop k.next s)))) (rw (binding-one, lt-ltb (variable_of f.head) v (omega (arith, f.is.var)), beyond)) ∙ carry-bad n 3 _
 
   -- one binding more
   pub record Bound : Type 0 where
@@ -124,15 +131,14 @@ module _ (levels : ℕ) (s : Bytes) (p : ℕ) (k : Seen) (n v : ℕ) (ls : List 
     pub one : rank (place head) ≡ 1
     pub var : k.var.0 ≡ variable_of head
 
-  pub binds-on : class_of k ≡ 1 → k.why ≡ 0 → v ≤ k.var.0 → Bound
+  pub binds-on : v ≤ k.var.0 → Bound
   unfolding beyond
-  binds-on e z l =
-      let f = binding-fit e z in
-      let q : rank (place f.head) ≡ 1 = sym (class-is s k f.head f.is) ∙ e in
-      let b : beyond (bindings v levels) f.head ≡ ok f.head = rw (q, le-ltb (variable_of f.head) v (omega (arith, f.is.var)), beyond) in
+  binds-on l =
+      let f = binding-fit in
+      let b : beyond (bindings v levels) f.head ≡ ok f.head = rw (binding-one, le-ltb (variable_of f.head) v (omega (arith, f.is.var)), beyond) in
       let u : under (bindings v levels) f.head ≡ bindings (k.var.0 + 1) levels ∷ []
-      = under-plain (bindings v levels) f.head 1 q (omega arith) (λ d. omega arith) ∙ after-binding levels f.head q ∙ ap (λ (x : ℕ). bindings x levels ∷ []) (omega (arith, f.is.var)) in
-      record { head = f.head; same = f.same ∙ rw b (carry-ok n f.head _ ∙ rw u); on = f.on; inside = f.inside; line = f.line; one = q; var = f.is.var }
+      = under-plain (bindings v levels) f.head 1 binding-one (omega arith) (λ d. omega arith) ∙ after-binding levels f.head binding-one ∙ ap (λ (x : ℕ). bindings x levels ∷ []) (omega (arith, f.is.var)) in
+      record { head = f.head; same = f.same ∙ rw b (carry-ok n f.head _ ∙ rw u); on = f.on; inside = f.inside; line = f.line; one = binding-one; var = f.is.var }
 
 -- the head of a line, whatever was wanted there
 line-head : {s : Bytes} {p q r : ℕ} {h k : Head} → LineAt s p h q → LineAt s p k r → h ≡ k
@@ -167,44 +173,49 @@ pub binds-start : (s : Bytes) (p l : ℕ) → TopAsk s p l → BindsInv s p l p 
 binds-start s p l q =
     record { heads = []; same = λ levels. sym (behind-none (run (bindings 0 levels ∷ []) l (split 10 (drop p s)))); lines = no_line; ascending = no_binding; count = omega arith; room = q.room; inside = q.inside; above = q.above }
 
-module _ (s : Bytes) (p₀ l₀ p l v : ℕ) (i : BindsInv s p₀ l₀ p l v) (k : Seen) (r : ReadAs s p k (split 10 (drop p s))) where
+module _ (s : Bytes) (p₀ l₀ p l v : ℕ) (i : BindsInv s p₀ l₀ p l v) where
   abbrev all_binds : ℕ → Run
   all_binds levels = run (bindings 0 levels ∷ []) l₀ (split 10 (drop p₀ s))
 
   pub bound-room : l < 4294967295
   bound-room = omega (arith, i.room, i.inside, i.above)
 
-  pub bound-done : (class_of k ≡ 1 → ⊥) → BoundAs s p₀ l₀ p l
-  bound-done ne = record { heads = i.heads; same = λ levels. i.same levels ∙ ap (behind i.heads) (binds-none levels s p k l v (split 10 (drop p s)) r ne); lines = i.lines; top = v; ascending = i.ascending; count = i.count; inside = i.inside; above = i.above }
+  pub bound-done : (x : Result Seen BadLine) → ReadAs s p x (split 10 (drop p s)) → (class_of x ≡ 1 → ⊥) → BoundAs s p₀ l₀ p l
+  bound-done x r ne =
+      record { heads = i.heads; same = λ levels. i.same levels ∙ ap (behind i.heads) (binds-none levels s p x l v (split 10 (drop p s)) r ne); lines = i.lines; top = v; ascending = i.ascending; count = i.count; inside = i.inside; above = i.above }
 
-  pub bound-wrong : class_of k ≡ 1 → (k.why ≡ 0 → ⊥) → (levels : ℕ) → all_binds levels ≡ stopped k.why l
+  pub bound-wrong : (x : Result Seen BadLine) → ReadAs s p x (split 10 (drop p s)) → class_of x ≡ 1 → (line : HirId) → line.0 ≡ l → (o : Refused) → GoodAs x line (Err o) → (levels : ℕ) → all_binds levels ≡ stopped (number_of o.why) o.place
   unfolding behind
-  bound-wrong e ne levels = i.same levels ∙ ap (behind i.heads) (binds-wrong levels s p k l v (split 10 (drop p s)) r e ne)
+  bound-wrong x r e line el o g levels =
+      let b = g.0 in
+      i.same levels ∙ ap (behind i.heads) (binds-wrong levels s p b l v (split 10 (drop p s)) (rw g.1 at r) (rw g.1 at e))
+      ∙ ap (λ (y : Refusal). stopped (number_of y) l) (sym g.2) ∙ ap (stopped (number_of o.why)) (sym (g.3 ∙ el))
 
-  pub bound-low : class_of k ≡ 1 → k.why ≡ 0 → k.var.0 < v → (levels : ℕ) → all_binds levels ≡ stopped 3 l
-  unfolding behind
-  bound-low e z h levels = i.same levels ∙ ap (behind i.heads) (binds-low levels s p k l v (split 10 (drop p s)) r e z h)
+  module _ (k : Seen) (r : ReadAs s p (Ok k) (split 10 (drop p s))) (e : class_of (Ok k) ≡ 1) where
+    pub bound-low : k.var.0 < v → (levels : ℕ) → all_binds levels ≡ stopped 3 l
+    unfolding behind
+    bound-low h levels = i.same levels ∙ ap (behind i.heads) (binds-low levels s p k l v (split 10 (drop p s)) r e h)
 
-  pub bound-less : class_of k ≡ 1 → k.why ≡ 0 → v ≤ k.var.0 → length s - k.next < length s - p
-  bound-less e z h =
-      let b = binds-on 0 s p k l v (split 10 (drop p s)) r e z h in
-      omega (arith, b.on, b.inside)
+    pub bound-less : v ≤ k.var.0 → length s - k.next < length s - p
+    bound-less h =
+        let b = binds-on 0 s p k l v (split 10 (drop p s)) r e h in
+        omega (arith, b.on, b.inside)
 
-  pub bound-on : class_of k ≡ 1 → k.why ≡ 0 → v ≤ k.var.0 → (m : ℕ) → m ≡ l + 1 → BindsInv s p₀ l₀ k.next m (k.var.0 + 1)
-  bound-on e z h m em =
-      let at : (levels : ℕ) → Bound levels s p k l v (split 10 (drop p s)) r = λ levels. binds-on levels s p k l v (split 10 (drop p s)) r e z h in
-      let b = at 0 in
-      record {
-        heads = i.heads ++ (b.head ∷ []);
-        same = λ levels. i.same levels ∙ ap (behind i.heads) ((at levels).same ∙ ap (λ (x : Head). before x (run (bindings (k.var.0 + 1) levels ∷ []) (suc l) (split 10 (drop k.next s)))) (line-head ((at levels).line refl) (b.line refl)) ∙ before-behind b.head _) ∙ behind-append i.heads (b.head ∷ []) _
-            ∙ ap (λ (x : ℕ). behind (i.heads ++ (b.head ∷ [])) (run (bindings (k.var.0 + 1) levels ∷ []) x (split 10 (drop k.next s)))) (omega (arith, em));
-        lines = lines_snoc i.lines (b.line refl);
-        ascending = ascends-as (ascends-snoc i.ascending b.head b.one (omega (arith, b.var))) (omega (arith, b.var));
-        count = omega (arith, em, i.count, length-append i.heads (b.head ∷ []));
-        room = i.room;
-        inside = b.inside;
-        above = omega (arith, em, b.on, i.above);
-      }
+    pub bound-on : v ≤ k.var.0 → (m : ℕ) → m ≡ l + 1 → BindsInv s p₀ l₀ k.next m (k.var.0 + 1)
+    bound-on h m em =
+        let at : (levels : ℕ) → Bound levels s p k l v (split 10 (drop p s)) r e = λ levels. binds-on levels s p k l v (split 10 (drop p s)) r e h in
+        let b = at 0 in
+        record {
+          heads = i.heads ++ (b.head ∷ []);
+          same = λ levels. i.same levels ∙ ap (behind i.heads) ((at levels).same ∙ ap (λ (x : Head). before x (run (bindings (k.var.0 + 1) levels ∷ []) (suc l) (split 10 (drop k.next s)))) (line-head ((at levels).line refl) (b.line refl)) ∙ before-behind b.head _) ∙ behind-append i.heads (b.head ∷ []) _
+              ∙ ap (λ (x : ℕ). behind (i.heads ++ (b.head ∷ [])) (run (bindings (k.var.0 + 1) levels ∷ []) x (split 10 (drop k.next s)))) (omega (arith, em));
+          lines = lines_snoc i.lines (b.line refl);
+          ascending = ascends-as (ascends-snoc i.ascending b.head b.one (omega (arith, b.var))) (omega (arith, b.var));
+          count = omega (arith, em, i.count, length-append i.heads (b.head ∷ []));
+          room = i.room;
+          inside = b.inside;
+          above = omega (arith, em, b.on, i.above);
+        }
 
 -- ## Clauses
 
@@ -275,7 +286,7 @@ pub clauses-start : (depth : ℕ) (s : Bytes) (p l : ℕ) → TopAsk s p l → C
 unfolding add_all
 clauses-start depth s p l q = record { heads = []; same = refl; room = q.room; inside = q.inside; above = q.above }
 
-module _ (depth : ℕ) (s : Bytes) (p₀ l₀ p l : ℕ) (i : ClausesInv depth s p₀ l₀ p l) (k : Seen) (r : ReadAs s p k (split 10 (drop p s))) where
+module _ (depth : ℕ) (s : Bytes) (p₀ l₀ p l : ℕ) (i : ClausesInv depth s p₀ l₀ p l) where
   abbrev ls : List Bytes
   ls = split 10 (drop p s)
 
@@ -294,111 +305,88 @@ module _ (depth : ℕ) (s : Bytes) (p₀ l₀ p l : ℕ) (i : ClausesInv depth s
   at-line y e = by-run (stopped y l) e ∙ add-refused i.heads y l
 
   -- the end line
-  fits-end : class_of k ≡ 3 → fits (clauses depth) (class_of k) ≡ true
+  fits-end : (c : ℕ) → c ≡ 3 → fits (clauses depth) c ≡ true
   unfolding fits
-  fits-end e = rw e
+  fits-end c e = rw e
 
-  end-fine : class_of k ≡ 3 → k.why ≡ 0 → (h : Head) × (all_clauses ≡ add_all i.heads (add h (check [] (suc l) (split 10 (drop k.next s))))) × (k.next ≤ length s)
+  end-fine : (k : Seen) → ReadAs s p (Ok k) ls → class_of (Ok k) ≡ 3 → (h : Head) × (all_clauses ≡ add_all i.heads (add h (check [] (suc l) (split 10 (drop k.next s))))) × (k.next ≤ length s)
   unfolding beyond before finish add_all
-  end-fine e z =
-      let f = line-fit s p k (clauses depth) [] l ls r (fits-end e) z in
+  end-fine k r e =
+      let f = line-fit s p (clauses depth) [] l k ls r (fits-end (class_of (Ok k)) e) in
       let q : rank (place f.head) ≡ 3 = sym (class-is s k f.head f.is) ∙ e in
       let u : under (clauses depth) f.head ≡ [] = under-plain (clauses depth) f.head 3 q (omega arith) (λ d. omega arith) ∙ after-end depth f.head q in
       let x : run (clauses depth ∷ []) l ls ≡ passed (f.head ∷ []) (suc l) (split 10 (drop k.next s))
       = f.same ∙ carry-ok l f.head _ ∙ ap (before f.head) (ap (λ (w : List Want). run (w ++ []) (suc l) (split 10 (drop k.next s))) u ∙ run_none (split 10 (drop k.next s)) (suc l)) in
       (f.head, by-run _ x, f.inside)
 
-  pub clause-end : class_of k ≡ 3 → (line : HirId) → line.0 ≡ l → ClausesAs depth s p₀ l₀ (end_of k line (length s))
-  clause-end e line el = by (eqb k.why 0) refl (eqb k.next (length s)) refl
-    where
-      by : (b : Bool) → eqb k.why 0 ≡ b → (t : Bool) → eqb k.next (length s) ≡ t
-          → ClausesAs depth s p₀ l₀ (pick_e b (pick_e t (Fine (length s) line) (Refused 3 (record { 0 = line.0 + 1 }))) (Refused k.why line))
-      by false eb t et = at-line k.why (line-wrong s p k (clauses depth) [] l ls r (fits-end e) (eqb-false k.why 0 eb)) ∙ ap (refused k.why) (sym el)
-      by true eb true et =
-          let f = end-fine e (eqb-true k.why 0 eb) in
-          let d : length (drop k.next s) ≡ 0 = omega (arith, length-drop k.next s, eqb-true k.next (length s) et) in
-          (i.heads ++ (f.0 ∷ []), f.1 ∙ ap (λ (q : Sheet). add_all i.heads (add f.0 q)) (nothing-more (drop k.next s) (suc l) d) ∙ ap (add_all i.heads) (add-one-head f.0) ∙ add-heads i.heads (f.0 ∷ []))
-      by true eb false et =
-          let f = end-fine e (eqb-true k.why 0 eb) in
-          let d : (length (drop k.next s) ≡ 0 → ⊥) = λ z. eqb-false k.next (length s) et (omega (arith, length-drop k.next s, f.2)) in
-          f.1 ∙ ap (λ (q : Sheet). add_all i.heads (add f.0 q)) (something-more (drop k.next s) (suc l) d) ∙ ap (add_all i.heads) (add_none f.0 3 (suc l)) ∙ add-refused i.heads 3 (suc l) ∙ ap (refused 3) (omega (arith, el))
+  pub clause-end : (x : Result Seen BadLine) → ReadAs s p x ls → class_of x ≡ 3 → (line : HirId) → line.0 ≡ l → (r : Result (Unit {0}) Refused) → EndAs x line (length s) r → ClausesAs depth s p₀ l₀ r
+  clause-end x r e line el (Ok u) (k, ek, en) =
+      let f = end-fine k (rw ek at r) (rw ek at e) in
+      let d : length (drop k.next s) ≡ 0 = omega (arith, length-drop k.next s, en) in
+      (i.heads ++ (f.0 ∷ []), f.1 ∙ ap (λ (q : Sheet). add_all i.heads (add f.0 q)) (nothing-more (drop k.next s) (suc l) d) ∙ ap (add_all i.heads) (add-one-head f.0) ∙ add-heads i.heads (f.0 ∷ []))
+  clause-end x r e line el (Err o) (inl (b, eb, ew, ep)) =
+      at-line (number_of b.why) (line-wrong s p (clauses depth) [] l b ls (rw eb at r) (fits-end (class_of (Err b)) (rw eb at e)))
+      ∙ ap (λ (y : Refusal). refused (number_of y) l) (sym ew) ∙ ap (refused (number_of o.why)) (sym (ep ∙ el))
+  clause-end x r e line el (Err o) (inr (k, ek, en, ew, ep)) =
+      let f = end-fine k (rw ek at r) (rw ek at e) in
+      let d : (length (drop k.next s) ≡ 0 → ⊥) = λ z. en (omega (arith, length-drop k.next s, f.2)) in
+      f.1 ∙ ap (λ (q : Sheet). add_all i.heads (add f.0 q)) (something-more (drop k.next s) (suc l) d) ∙ ap (add_all i.heads) (add_none f.0 3 (suc l)) ∙ add-refused i.heads 3 (suc l)
+      ∙ ap (λ (y : ℕ). refused y (suc l)) (sym ew) ∙ ap (refused (number_of o.why)) (omega (arith, el, ep))
 
   -- a clause
-  module _ (ne : class_of k ≡ 3 → ⊥) (y : ℕ) (ey : y ≡ verdict_of (class_of k) 2 k.why depth) where
-    pub clause-stop : (y ≡ 0 → ⊥) → all_clauses ≡ refused y l
-    clause-stop h = by (eqb (class_of k) 2) (eqb k.why 0) refl refl
-      where
-        by : (b t : Bool) → eqb (class_of k) 2 ≡ b → eqb k.why 0 ≡ t → all_clauses ≡ refused y l
-        by false t eb et = at-line y (line-unfit s p k (clauses depth) [] l ls r (fits-clause depth (class_of k) ne false eb) ∙ ap (λ (x : ℕ). stopped x l) (sym (ey ∙ rw eb)))
-        by true false eb et = at-line y (line-wrong s p k (clauses depth) [] l ls r (fits-clause depth (class_of k) ne true eb) (eqb-false k.why 0 et) ∙ ap (λ (x : ℕ). stopped x l) (sym (ey ∙ rw (eb, et))))
-        by true true eb et = absurd (h (ey ∙ rw (eb, et)))
+  pub clause-stop : (x : Result Seen BadLine) → ReadAs s p x ls → (class_of x ≡ 3 → ⊥) → (why : Refusal) → Refuses x clause_place depth why → all_clauses ≡ refused (number_of why) l
+  unfolding rank
+  clause-stop x r ne why (elsewhere other e) = at-line (number_of why) (line-unfit s p (clauses depth) [] l x ls r (fits-clause depth (class_of x) ne false (ne_eqb (class_of x) 2 other)) ∙ ap (λ (y : ℕ). stopped y l) (sym e))
+  clause-stop x r ne why (wrong b e here ey) =
+      at-line (number_of why)
+      (line-wrong s p (clauses depth) [] l b ls (rw e at r) (fits-clause depth (class_of (Err b)) (rw e at ne) true (eq-eqb (class_of (Err b)) 2 (rw e at here))) ∙ ap (λ (y : Refusal). stopped (number_of y) l) (sym ey))
+  clause-stop x r ne why (deep k e here e13 z ey) = absurd (omega (arith, e13))
 
-    module _ (z : y ≡ 0) where
-      class-two : class_of k ≡ 2
-      class-two = by (eqb (class_of k) 2) refl
-        where
-          by : (b : Bool) → eqb (class_of k) 2 ≡ b → class_of k ≡ 2
-          by true e = eqb-true (class_of k) 2 e
-          by false e = absurd (let q : y ≡ 3 = ey ∙ rw e in omega arith)
+  module _ (k : Seen) (r : ReadAs s p (Ok k) ls) (here : class_of (Ok k) ≡ 2) where
+    fit : Fit s p k (clauses depth) [] l ls
+    fit = line-fit s p (clauses depth) [] l k ls r (fits-clause depth (class_of (Ok k)) (λ d. omega (arith, here)) true (eq-eqb (class_of (Ok k)) 2 here))
 
-      why-zero : k.why ≡ 0
-      why-zero = by (eqb k.why 0) refl
-        where
-          by : (b : Bool) → eqb k.why 0 ≡ b → k.why ≡ 0
-          by true e = eqb-true k.why 0 e
-          by false e = let q : y ≡ k.why = ey ∙ rw (eq-eqb (class_of k) 2 class-two, e) in sym q ∙ z
+    -- its own lines, and then the clauses that follow
+    into-clause : run (clauses depth ∷ []) l ls ≡ before fit.head (and_go (kid_run s k depth (suc l)) (λ m ms. run (clauses depth ∷ []) m ms))
+    unfolding beyond under
+    into-clause =
+        let h = fit.head in
+        let q : rank (place h) ≡ 2 = sym (class-is s k h fit.is) ∙ here in
+        let u : under (clauses depth) h ++ [] ≡ kid_wants (row (word_of k.word)).under k.count k.flag depth ++ (clauses depth ∷ [])
+        = append-nil (under (clauses depth) h) ∙ rw (after-clause depth h q, kids-of s k h depth fit.is) in
+        fit.same ∙ carry-ok l h _ ∙ ap (before h) (ap (λ (w : List Want). run w (suc l) (split 10 (drop k.next s))) u ∙ run-append (split 10 (drop k.next s)) (kid_wants (row (word_of k.word)).under k.count k.flag depth) (clauses depth ∷ []) (suc l))
 
-      fit : Fit s p k (clauses depth) [] l ls
-      fit = line-fit s p k (clauses depth) [] l ls r (fits-clause depth (class_of k) ne true (eq-eqb (class_of k) 2 class-two)) why-zero
+    module _ (m : ℕ) (em : m ≡ l + 1) where
+      pub clause-ask : KidsAsk s k m depth
+      clause-ask = record { room = i.room; head = fit.head; is = fit.is; inside = fit.inside; above = omega (arith, em, i.above, fit.on) }
 
-      abbrev kid_run : ℕ → Run
-      kid_run m = run (kid_wants k.word k.count k.flag depth) m (split 10 (drop k.next s))
+      run-m : kid_run s k depth m ≡ kid_run s k depth (suc l)
+      run-m = ap (kid_run s k depth) (em ∙ add-one l)
 
-      -- its own lines, and then the clauses that follow
-      into-clause : run (clauses depth ∷ []) l ls ≡ before fit.head (and_go (kid_run (suc l)) (λ m ms. run (clauses depth ∷ []) m ms))
-      unfolding beyond under
-      into-clause =
-          let h = fit.head in
-          let q : rank (place h) ≡ 2 = sym (class-is s k h fit.is) ∙ class-two in
-          let u : under (clauses depth) h ++ [] ≡ kid_wants k.word k.count k.flag depth ++ (clauses depth ∷ [])
-          = append-nil (under (clauses depth) h) ∙ rw (after-clause depth h q, kids-of s k h depth fit.is) in
-          fit.same ∙ carry-ok l h _ ∙ ap (before h) (ap (λ (w : List Want). run w (suc l) (split 10 (drop k.next s))) u ∙ run-append (split 10 (drop k.next s)) (kid_wants k.word k.count k.flag depth) (clauses depth ∷ []) (suc l))
+      pub clause-refused : (o : Refused) → kid_run s k depth m ≡ stopped (number_of o.why) o.place → all_clauses ≡ refused (number_of o.why) o.place
+      unfolding and_go before finish
+      clause-refused o g =
+          by-run (stopped (number_of o.why) o.place) (into-clause ∙ ap (λ (w : Run). before fit.head (and_go w (λ m ms. run (clauses depth ∷ []) m ms))) (sym run-m ∙ g)) ∙ add-refused i.heads (number_of o.why) o.place
 
-      pub clause-ask : (m : ℕ) → m ≡ l + 1 → KidsAsk s k m depth
-      clause-ask m em = record { room = i.room; head = fit.head; is = fit.is; inside = fit.inside; above = omega (arith, em, i.above, fit.on) }
+      module _ (x : Next) (got : FineAs s k.next x.at x.line.0 (kid_run s k depth m)) where
+        pub clause-less : length s - x.at < length s - p
+        clause-less = omega (arith, got.on, got.inside, fit.on)
 
-      module _ (m : ℕ) (em : m ≡ l + 1) where
-        run-m : kid_run m ≡ kid_run (suc l)
-        run-m = ap kid_run (em ∙ add-one l)
-
-        pub clause-refused : (x : Check) → ChecksAs s k.next x (kid_run m) → (why : ℕ) (o : HirId) → x ≡ Refused why o → all_clauses ≡ refused why o.0
-        unfolding and_go before finish
-        clause-refused x f why o e =
-            let g : kid_run m ≡ stopped why o.0 = rw e at f in
-            by-run (stopped why o.0) (into-clause ∙ ap (λ (w : Run). before fit.head (and_go w (λ m ms. run (clauses depth ∷ []) m ms))) (sym run-m ∙ g)) ∙ add-refused i.heads why o.0
-
-        module _ (x : Check) (f : ChecksAs s k.next x (kid_run m)) (next : ℕ) (o : HirId) (e : x ≡ Fine next o) where
-          got : FineAs s k.next next o.0 (kid_run m)
-          got = rw e at f
-
-          pub clause-less : length s - next < length s - p
-          clause-less = omega (arith, got.on, got.inside, fit.on)
-
-          pub clause-on : ClausesInv depth s p₀ l₀ next o.0
-          unfolding and_go
-          clause-on =
-              let w : run (clauses depth ∷ []) l ls ≡ behind (fit.head ∷ got.heads) (run (clauses depth ∷ []) o.0 (split 10 (drop next s)))
-              = into-clause ∙ ap (λ (w : Run). before fit.head (and_go w (λ m ms. run (clauses depth ∷ []) m ms))) (sym run-m ∙ got.same)
-              ∙ before-behind fit.head _ ∙ behind-append (fit.head ∷ []) got.heads _ in
-              record {
-                heads = i.heads ++ (fit.head ∷ got.heads);
-                same = by-run _ w
-                    ∙ ap (add_all i.heads) (finish-behind (fit.head ∷ got.heads) _ ∙ ap (add_all (fit.head ∷ got.heads)) (sym (check-run (split 10 (drop next s)) (clauses depth ∷ []) o.0)))
-                    ∙ sym (add-append i.heads (fit.head ∷ got.heads) _);
-                room = i.room;
-                inside = got.inside;
-                above = got.above;
-              }
+        pub clause-on : ClausesInv depth s p₀ l₀ x.at x.line.0
+        unfolding and_go
+        clause-on =
+            let w : run (clauses depth ∷ []) l ls ≡ behind (fit.head ∷ got.heads) (run (clauses depth ∷ []) x.line.0 (split 10 (drop x.at s)))
+            = into-clause ∙ ap (λ (w : Run). before fit.head (and_go w (λ m ms. run (clauses depth ∷ []) m ms))) (sym run-m ∙ got.same)
+            ∙ before-behind fit.head _ ∙ behind-append (fit.head ∷ []) got.heads _ in
+            record {
+              heads = i.heads ++ (fit.head ∷ got.heads);
+              same = by-run _ w
+                  ∙ ap (add_all i.heads) (finish-behind (fit.head ∷ got.heads) _ ∙ ap (add_all (fit.head ∷ got.heads)) (sym (check-run (split 10 (drop x.at s)) (clauses depth ∷ []) x.line.0)))
+                  ∙ sym (add-append i.heads (fit.head ∷ got.heads) _);
+              room = i.room;
+              inside = got.inside;
+              above = got.above;
+            }
 
 -- ## The first line
 

@@ -1,35 +1,81 @@
--- What the validation says, by the numbers that the code has.
-use Rattle.std.specs.Prelude.{◌≡◌, List, [], ◌∷◌, ◌++◌, Bool, true, false, ℕ, ◌+◌, ◌/◌, ◌≤◌, ◌<◌, eqb, length, get_or, drop}
+-- What the validation says, by what the code has.
+use Rattle.std.specs.Prelude.{◌≡◌, ◌⊎◌, List, [], ◌∷◌, ◌++◌, Bool, true, false, cond, ℕ, ◌+◌, ◌-◌, ◌≤◌, ◌<◌, eqb, ltb, length, drop, Option, Some, None, Result, Ok, Err}
 use Rattle.semantics.specs.Codes.{line_feed, badly_written, too_deep, expression_rank}
 use Rattle.semantics.specs.Bytes.{Bytes, split}
-use Rattle.semantics.specs.Sheet.{Head, rank, place, clauses, bindings, check, Sheet, heads, refused, sheet}
-use Rattle.line.specs.Arrays.{groups, seconds}
+use Rattle.semantics.specs.Sheet.{Head, Place, rank, place, row, Shape, clauses, bindings, check, Sheet, heads, refused, sheet}
+use Rattle.semantics.specs.Refusals.{number_of}
+use Rattle.semantics.specs.declared.refusals.Refusal.{Refusal}
+use Rattle.semantics.specs.declared.refusals.Refused.{Refused}
+use Rattle.line.specs.Words.{word_of, place_of}
 use Rattle.line.specs.Line.{HeadIs}
+use Rattle.line.specs.declared.words.Word.{Word}
+use Rattle.line.specs.declared.places.Place.{Place as Spot}
 use Rattle.line.specs.declared.line.Head.{Head as Seen}
+use Rattle.line.specs.declared.line.BadLine.{BadLine}
 use Rattle.line.specs.declared.line.HirId.{HirId}
 use Rattle.hir.specs.Run.{Run, stopped, passed, run, behind}
-use Rattle.hir.specs.Kids.{group_size}
-use Rattle.hir.specs.declared.valid.Check.{Check}
-use Rattle.hir.specs.declared.valid.Check.TheVariants.{Fine, Refused}
+use Rattle.hir.specs.Kids.{first_size, first_spot, second_size, second_spot, bits}
+use Rattle.hir.specs.declared.valid.Next.{Next}
 use Rattle.hir.specs.declared.valid.Kids.{Kids}
 use Rattle.hir.specs.declared.valid.Outline.{Outline}
 use Rattle.hir.specs.Lines.{LineAt, Lines, Met, Ascends}
 
-abbrev pub pick_c : Bool → ℕ → ℕ → ℕ
-pick_c true a b = a
-pick_c false a b = b
+-- ## A line at a place
 
--- another class is 3, then what is wrong with the fields, then the depth
-abbrev pub verdict_of : ℕ → ℕ → ℕ → ℕ → ℕ
-verdict_of q c y d = pick_c (eqb q c) (pick_c (eqb y 0) (pick_c (eqb c expression_rank) (pick_c (eqb d 0) too_deep 0) 0) y) badly_written
+-- the rank of the place of a line's word; for no word one behind the last
+abbrev pub word_class : Option Word → ℕ
+word_class None = 14
+word_class (Some w) = rank (row (word_of w)).place
 
--- what stands right below a line
-pub record KidsAs (h : Seen) (r : Kids) : Type 0 where
-  pub first : r.first ≡ group_size (get_or groups h.word 0) h.count h.flag
-  pub all : r.all ≡ r.first + group_size (get_or seconds h.word 0) h.count h.flag
-  pub class1 : r.class1 ≡ get_or groups h.word 0 / 32
-  pub class2 : r.class2 ≡ get_or seconds h.word 0 / 32
-  pub small : r.all < 131072
+abbrev pub class_of : Result Seen BadLine → ℕ
+class_of (Ok k) = rank (row (word_of k.word)).place
+class_of (Err b) = word_class b.word
+
+-- why a line is refused at a place with so many levels left: another place is first, then its fields, then the depth
+pub data Refuses (x : Result Seen BadLine) (q : Place) (d : ℕ) (why : Refusal) : Type 0 where
+  elsewhere : (class_of x ≡ rank q → ⊥) → number_of why ≡ badly_written → Refuses x q d why
+  wrong : (b : BadLine) → x ≡ Err b → class_of x ≡ rank q → why ≡ b.why → Refuses x q d why
+  deep : (k : Seen) → x ≡ Ok k → class_of x ≡ rank q → rank q ≡ expression_rank → d ≡ 0 → number_of why ≡ too_deep → Refuses x q d why
+
+abbrev pub AdmitAs : Result Seen BadLine → Place → ℕ → Result Seen Refusal → Type 0
+AdmitAs x q d (Ok k) = (x ≡ Ok k) × (class_of x ≡ rank q) × (rank q ≡ expression_rank → 0 < d)
+AdmitAs x q d (Err why) = Refuses x q d why
+
+-- a line is refused by its number
+abbrev pub RefusedAt : Refusal → HirId → Refused → Type 0
+RefusedAt why line r = (r.why ≡ why) × (r.place ≡ line.0)
+
+abbrev pub MeetAs : Result Seen BadLine → HirId → Place → ℕ → Result Seen Refused → Type 0
+MeetAs x line q d (Ok k) = (x ≡ Ok k) × (class_of x ≡ rank q) × (rank q ≡ expression_rank → 0 < d)
+MeetAs x line q d (Err e) = Refuses x q d e.why × (e.place ≡ line.0)
+
+-- the same of a line whose place is known
+abbrev pub GoodAs : Result Seen BadLine → HirId → Result Seen Refused → Type 0
+GoodAs x line (Ok k) = x ≡ Ok k
+GoodAs x line (Err e) = (b : BadLine) × (x ≡ Err b) × (e.why ≡ b.why) × (e.place ≡ line.0)
+
+-- ## What stands right below a line
+
+pub record HungAs (u : Shape) (c b : ℕ) (r : Kids) : Type 0 where
+  pub first : r.first ≡ first_size u c b
+  pub all : r.all ≡ r.first + second_size u c b
+  pub place1 : place_of r.place1 ≡ first_spot u
+  pub place2 : place_of r.place2 ≡ second_spot u
+
+abbrev pub KidsAs : Seen → Kids → Type 0
+KidsAs h r = HungAs (row (word_of h.word)).under h.count (bits h.flag) r
+
+abbrev pub pick_p : Bool → Spot → Spot → Spot
+pick_p true a b = a
+pick_p false a b = b
+
+-- the place of the j-th line below
+abbrev pub spot_of : Kids → ℕ → Spot
+spot_of k j = pick_p (ltb j k.first) k.place1 k.place2
+
+-- the depth left below a line
+abbrev pub below_of : ℕ → ℕ → ℕ
+below_of c d = cond (eqb c expression_rank) (d - 1) d
 
 -- a line that is fine, with its next line inside the sheet
 pub record KidsAsk (s : Bytes) (h : Seen) (line depth : ℕ) : Type 0 where
@@ -47,9 +93,9 @@ pub record FineAs (s : Bytes) (from next line : ℕ) (r : Run) : Type 0 where
   pub inside : next ≤ length s
   pub above : line ≤ next + 1
 
-abbrev pub ChecksAs : Bytes → ℕ → Check → Run → Type 0
-ChecksAs s from (Fine next line) r = FineAs s from next line.0 r
-ChecksAs s from (Refused why line) r = r ≡ stopped why line.0
+abbrev pub ChecksAs : Bytes → ℕ → Result Next Refused → Run → Type 0
+ChecksAs s from (Ok n) r = FineAs s from n.at n.line.0 r
+ChecksAs s from (Err e) r = r ≡ stopped (number_of e.why) e.place
 
 -- ## The top of a sheet
 
@@ -70,22 +116,19 @@ pub record BoundAs (s : Bytes) (p n next line : ℕ) : Type 0 where
   pub inside : next ≤ length s
   pub above : line ≤ next + 1
 
-abbrev pub BindsAs : Bytes → ℕ → ℕ → Check → Type 0
-BindsAs s p n (Fine next line) = BoundAs s p n next line.0
-BindsAs s p n (Refused why line) = (d : ℕ) → run (bindings 0 d ∷ []) n (split line_feed (drop p s)) ≡ stopped why line.0
-
-abbrev pub pick_e : Bool → Check → Check → Check
-pick_e true a b = a
-pick_e false a b = b
+abbrev pub BindsAs : Bytes → ℕ → ℕ → Result Next Refused → Type 0
+BindsAs s p n (Ok x) = BoundAs s p n x.at x.line.0
+BindsAs s p n (Err e) = (d : ℕ) → run (bindings 0 d ∷ []) n (split line_feed (drop p s)) ≡ stopped (number_of e.why) e.place
 
 -- the `end` line: its fields, and nothing behind it
-abbrev pub end_of : Seen → HirId → ℕ → Check
-end_of h line len = pick_e (eqb h.why 0) (pick_e (eqb h.next len) (Fine len line) (Refused badly_written (record { 0 = line.0 + 1 }))) (Refused h.why line)
+abbrev pub EndAs : Result Seen BadLine → HirId → ℕ → Result (Unit {0}) Refused → Type 0
+EndAs x line len (Ok u) = (k : Seen) × (x ≡ Ok k) × (k.next ≡ len)
+EndAs x line len (Err e) = GoodAs x line (Err e) ⊎ ((k : Seen) × (x ≡ Ok k) × (k.next ≡ len → ⊥) × (number_of e.why ≡ badly_written) × (e.place ≡ line.0 + 1))
 
 -- the clauses and the `end` line, and nothing behind it
-abbrev pub ClausesAs : ℕ → Bytes → ℕ → ℕ → Check → Type 0
-ClausesAs d s p n (Fine next line) = (hs : List Head) × (check (clauses d ∷ []) n (split line_feed (drop p s)) ≡ heads hs)
-ClausesAs d s p n (Refused why line) = check (clauses d ∷ []) n (split line_feed (drop p s)) ≡ refused why line.0
+abbrev pub ClausesAs : ℕ → Bytes → ℕ → ℕ → Result (Unit {0}) Refused → Type 0
+ClausesAs d s p n (Ok u) = (hs : List Head) × (check (clauses d ∷ []) n (split line_feed (drop p s)) ≡ heads hs)
+ClausesAs d s p n (Err e) = check (clauses d ∷ []) n (split line_feed (drop p s)) ≡ refused (number_of e.why) e.place
 
 -- ## The whole sheet
 
@@ -102,9 +145,9 @@ pub record RestLaid (d : ℕ) (s : Bytes) (from : ℕ) (r : Outline) (q : Sheet)
   pub met : Met (clauses d ∷ []) rest []
   pub line : r.line.0 ≡ 2 + length binds
 
-pub data RestAs (d : ℕ) (s : Bytes) (from : ℕ) (r : Outline) (q : Sheet) : Type 0 where
-  rest_refused : q ≡ refused r.why r.line.0 → RestAs d s from r q
-  rest_laid : r.why ≡ 0 → RestLaid d s from r q → RestAs d s from r q
+abbrev pub RestAs : ℕ → Bytes → ℕ → Result Outline Refused → Sheet → Type 0
+RestAs d s from (Ok r) q = RestLaid d s from r q
+RestAs d s from (Err e) q = q ≡ refused (number_of e.why) e.place
 
 -- an accepted sheet: its first line up to `from`, its bindings up to `to`, and from there on its clauses and its end, the first of them
 -- on line `line`
@@ -122,7 +165,7 @@ pub record Laid (d : ℕ) (s : Bytes) (r : Outline) : Type 0 where
   pub met : Met (clauses d ∷ []) rest []
   pub line : r.line.0 ≡ 2 + length binds
 
--- the sheet, whose expressions may stand d levels deep, is refused for `why` at line `line`; or, with `why` 0, accepted
-pub data OutlineAs (d : ℕ) (s : Bytes) (r : Outline) : Type 0 where
-  is_refused : 0 < r.why → sheet d s ≡ refused r.why r.line.0 → OutlineAs d s r
-  is_laid : r.why ≡ 0 → Laid d s r → OutlineAs d s r
+-- the sheet, whose expressions may stand d levels deep, is accepted; or refused for `why` at line `place`
+abbrev pub OutlineAs : ℕ → Bytes → Result Outline Refused → Type 0
+OutlineAs d s (Ok r) = Laid d s r
+OutlineAs d s (Err e) = sheet d s ≡ refused (number_of e.why) e.place

@@ -5,4 +5,4 @@ mod bind;
 mod valid;
 
 pub use bind::bind_kind;
-pub use valid::{Outline, check_sheet, kids_of, next_line};
+pub use valid::{Kids, Next, Outline, check_sheet, kids_of, next_line};

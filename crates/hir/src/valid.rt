@@ -1,30 +1,41 @@
 // The whole sheet read: the first line with 3, 4 or 5.
-ghost use Rattle.std.specs.Prelude.{◌≡◌, ℕ, ◌+◌, ◌-◌, ◌≤◌, ◌<◌, ◌/◌, eqb, ltb, length, get_or, drop, [], ◌∷◌};
+ghost use Rattle.std.specs.Prelude.{◌≡◌, ◌↔◌, ℕ, ◌+◌, ◌≤◌, ◌<◌, length, drop, [], ◌∷◌, IsTrue};
 ghost use Rattle.semantics.specs.Codes.{line_feed, expression_rank};
 ghost use Rattle.semantics.specs.Bytes.{split};
-ghost use Rattle.line.specs.Arrays.{classes, groups, seconds};
+ghost use Rattle.semantics.specs.Sheet.{bindings, check, rank, row};
+ghost use Rattle.line.specs.declared.places.Place.TheVariants.{Expression};
+ghost use Rattle.line.specs.Words.{word_of, place_of, under_of};
 ghost use Rattle.hir.specs.Run.{run};
-ghost use Rattle.hir.specs.Kids.{group_size, kid_wants};
-ghost use Rattle.hir.specs.Check.{pick_c, verdict_of, KidsAs, KidsAsk, ChecksAs, TopAsk, BindsAs, ClausesAs, end_of, RestAs, OutlineAs};
-ghost use Rattle.semantics.specs.Sheet.{bindings, check};
+ghost use Rattle.hir.specs.Kids.{kid_wants};
+ghost use Rattle.hir.specs.Check.{class_of, below_of, spot_of, RefusedAt, HungAs, KidsAs, KidsAsk, AdmitAs, MeetAs, GoodAs, ChecksAs, TopAsk, BindsAs, EndAs, ClausesAs, RestAs, OutlineAs};
 
-use line::{Head, HirId, class_of, group1_of, group2_of, is_leaf, read_line};
-use semantics::{ACCEPTED, BADLY_WRITTEN, TOO_DEEP};
+use line::{BadLine, Head, HirId, Place, Under, is_leaf, place_of, read_line, row_of};
+use semantics::{Refusal, Refused};
 
-// A tree of lines is fine, and what follows starts at `next`, line `line`; or it is refused.
-#[derive(Drop)]
-pub enum Check {
-    Fine { next: usize, line: HirId },
-    Refused { why: u32, line: HirId },
+// Where the next line starts, and its number.
+#[derive(Clone, Copy)]
+pub struct Next {
+    pub at: usize,
+    pub line: HirId,
 }
 
-// What stands right below a line: so many lines of a class, and up to `all` of another.
+// What stands right below a line: so many lines of a place, and up to `all` of another.
 #[derive(Clone, Copy)]
 pub struct Kids {
     pub first: usize,
     pub all: usize,
-    pub class1: usize,
-    pub class2: usize,
+    pub place1: Place,
+    pub place2: Place,
+}
+
+// A line is refused.
+fn refused(why: Refusal, line: HirId) -> Refused
+    ensures { RefusedAt why line result }
+{
+    Refused {
+        why,
+        place: u64::from(line.0),
+    }
 }
 
 // The next line's number.
@@ -35,64 +46,129 @@ pub fn next_line(l: HirId) -> HirId
     HirId(l.0 + 1)
 }
 
-// How many lines a group has, by the line's count and flag number.
-fn group_size(g: usize, count: u64, flag: u64) -> usize
-    requires { (count ≤ 9999) × (flag ≤ 3) }
-    ensures { (result ≡ group_size g count flag) × (result < 65536) }
+// The line behind one that was read.
+fn behind(head: Head, line: HirId) -> Next
+    requires { line.0 < 4294967295 }
+    ensures { (result.at ≡ head.next) × (result.line.0 ≡ line.0 + 1) }
 {
-    let c = count as usize;
-    let f = flag as usize;
-    g / 8 % 4 + g / 2 % 4 * c + g % 2 * (f % 2 + f / 2)
+    let line = next_line(line);
+    Next {
+        at: head.next,
+        line,
+    }
+}
+
+// So many lines of one place, and of none other.
+fn alike(all: usize, place: Place) -> Kids
+    ensures { (result.first ≡ all) × (result.all ≡ all) × (result.place1 ≡ place) × (result.place2 ≡ Expression) }
+{
+    Kids {
+        first: all,
+        all,
+        place1: place,
+        place2: Place::Expression,
+    }
+}
+
+// So many lines of one place, and of another.
+fn both(first: usize, place1: Place, second: usize, place2: Place) -> Kids
+    requires { (first ≤ 65535) × (second ≤ 65535) }
+    ensures { (result.first ≡ first) × (result.all ≡ first + second) × (result.place1 ≡ place1) × (result.place2 ≡ place2) }
+{
+    Kids {
+        first,
+        all: first + second,
+        place1,
+        place2,
+    }
+}
+
+// What hangs under a line, by its count and how many bits of its flag number there are.
+fn hung(under: Under, count: usize, bits: usize) -> Kids
+    requires { (count ≤ 9999) × (bits ≤ 2) }
+    ensures { HungAs (under_of under) count bits result }
+{
+    match under {
+        Under::Nothing => alike(0, Place::Expression),
+        Under::Two => alike(2, Place::Expression),
+        Under::Bounds => alike(1 + bits, Place::Expression),
+        Under::Arms => alike(2 * count + bits, Place::Expression),
+        Under::One(place) => alike(1, place),
+        Under::Times(_, place) => alike(count, place),
+        Under::TimesThen(_, place, _) => both(count, place, bits, Place::Expression),
+        Under::Around(place, _) => {
+            if place == Place::Expression {
+                alike(2 + bits, place)
+            } else {
+                both(1, place, 1 + bits, Place::Expression)
+            }
+        }
+        Under::OneThen(_) => alike(1 + bits, Place::Expression),
+        Under::OneTimes(_, place) => both(1, Place::Expression, count, place),
+    }
 }
 
 // What stands right below this line.
 pub fn kids_of(h: Head) -> Kids
-    requires { (h.word < 64) × (h.count ≤ 9999) × (h.flag ≤ 3) }
+    requires { (h.count ≤ 9999) × (h.flag ≤ 3) }
     ensures { KidsAs h result }
 {
-    let g = group1_of(h.word);
-    let k = group2_of(h.word);
-    let first = group_size(g, h.count, h.flag);
-    Kids {
-        first,
-        all: first + group_size(k, h.count, h.flag),
-        class1: g / 32,
-        class2: k / 32,
+    let flag = h.flag as usize;
+    hung(row_of(h.word).under, h.count as usize, flag % 2 + flag / 2)
+}
+
+// The place of the j-th line below.
+fn kid_place(k: Kids, j: usize) -> Place
+    ensures { result ≡ spot_of k j }
+{
+    if j < k.first { k.place1 } else { k.place2 }
+}
+
+// Whether the word of a line belongs at a place.
+fn is_at(line: Result<Head, BadLine>, place: Place) -> bool
+    ensures { IsTrue result ↔ (class_of line ≡ rank (place_of place)) }
+{
+    match line {
+        Ok(head) => place_of(head.word) == place,
+        Err(bad) => match bad.word {
+            Some(word) => place_of(word) == place,
+            None => false,
+        },
     }
 }
 
-// The class of the j-th line below.
-pub fn class_at(k: Kids, j: usize) -> usize
-    ensures { result ≡ pick_c (ltb j k.first) k.class1 k.class2 }
+// A line at a place, with so many levels of depth left.
+fn admit(line: Result<Head, BadLine>, place: Place, depth: usize) -> Result<Head, Refusal>
+    ensures { AdmitAs line (place_of place) depth result }
 {
-    if j < k.first { k.class1 } else { k.class2 }
-}
-
-// What is wrong with this line at a place for a class, with so many levels of depth left.
-fn verdict(h: Head, class: usize, depth: usize) -> u32
-    requires { h.word < 64 }
-    ensures { result ≡ verdict_of (get_or classes h.word 0) class h.why depth }
-{
-    if class_of(h.word) != class {
-        return BADLY_WRITTEN;
+    if !is_at(line, place) {
+        return Err(Refusal::BadlyWritten);
     }
-    if h.why != ACCEPTED {
-        return h.why;
-    }
-    if class == line::AT_EXPRESSION {
-        if depth == 0 {
-            return TOO_DEEP;
+    match line {
+        Err(bad) => Err(bad.why),
+        Ok(head) => {
+            if place == Place::Expression && depth == 0 {
+                Err(Refusal::TooDeep)
+            } else {
+                Ok(head)
+            }
         }
     }
-    0
 }
 
-// The depth left below a line of a class.
-fn below(class: usize, depth: usize) -> usize
-    requires { class ≡ expression_rank → 0 < depth }
-    ensures { result ≡ pick_c (eqb class expression_rank) (depth - 1) depth }
+// The same for a line of this number.
+fn meet(line: Result<Head, BadLine>, at: HirId, place: Place, depth: usize) -> Result<Head, Refused>
+    ensures { MeetAs line at (place_of place) depth result }
 {
-    if class == line::AT_EXPRESSION {
+    admit(line, place, depth).map_err(|why| refused(why, at))
+}
+
+// The depth left below a line of a place.
+fn below(place: Place, depth: usize) -> usize
+    requires { rank (place_of place) ≡ expression_rank → 0 < depth }
+    ensures { result ≡ below_of (rank (place_of place)) depth }
+{
+    if place == Place::Expression {
         depth - 1
     } else {
         depth
@@ -100,171 +176,110 @@ fn below(class: usize, depth: usize) -> usize
 }
 
 // The lines below this one, and all below those, from its next line on.
-pub fn check_kids(sheet: &[u8], h: Head, line: HirId, depth: usize) -> Check
+pub fn check_kids(sheet: &[u8], h: Head, line: HirId, depth: usize) -> Result<Next, Refused>
     requires { KidsAsk sheet.now h line.0 depth }
-    ensures { ChecksAs sheet.now h.next result (run (kid_wants h.word h.count h.flag depth) line.0 (split line_feed (drop h.next sheet.now))) }
+    ensures { ChecksAs sheet.now h.next result (run (kid_wants (row (word_of h.word)).under h.count h.flag depth) line.0 (split line_feed (drop h.next sheet.now))) }
 {
     let kids = kids_of(h);
-    let n = kids.all;
-    let mut p = h.next;
-    let mut l = line;
-    let mut j = 0;
-    while j < n {
-        let c = class_at(kids, j);
-        let k = read_line(sheet, p, false);
-        let why = verdict(k, c, depth);
-        if why != 0 {
-            return Check::Refused { why, line: l };
-        }
-        let m = next_line(l);
-        if is_leaf(k.word) {
-            p = k.next;
-            l = m;
+    let mut next = Next { at: h.next, line };
+    for j in 0..kids.all {
+        let place = kid_place(kids, j);
+        let line = read_line(sheet, next.at);
+        let kid = meet(line, next.line, place, depth)?;
+        let under = behind(kid, next.line);
+        if is_leaf(kid.word) {
+            next = under;
         } else {
-            match check_kids(sheet, k, m, below(c, depth)) {
-                Check::Fine { next, line } => {
-                    p = next;
-                    l = line;
-                }
-                Check::Refused { why, line } => {
-                    return Check::Refused { why, line };
-                }
-            }
+            next = check_kids(sheet, kid, under.line, below(place, depth))?;
         }
-        j += 1;
     }
-    Check::Fine { next: p, line: l }
+    Ok(next)
+}
+
+// A line whose fields are fine.
+fn good(line: Result<Head, BadLine>, at: HirId) -> Result<Head, Refused>
+    ensures { GoodAs line at result }
+{
+    line.map_err(|bad| refused(bad.why, at))
 }
 
 // The `b` lines from `at` on, their variables ascending: where they end.
-fn check_binds(sheet: &[u8], at: usize, line: HirId) -> Check
+fn check_binds(sheet: &[u8], at: usize, line: HirId) -> Result<Next, Refused>
     requires { TopAsk sheet.now at line.0 }
     ensures { BindsAs sheet.now at line.0 result }
 {
-    let mut p = at;
-    let mut l = line;
+    let mut next = Next { at, line };
     let mut least: u64 = 0;
     loop {
-        let h = read_line(sheet, p, false);
-        if class_of(h.word) != line::AT_BINDING {
-            return Check::Fine { next: p, line: l };
+        let line = read_line(sheet, next.at);
+        if !is_at(line, Place::Binding) {
+            return Ok(next);
         }
-        if h.why != ACCEPTED {
-            return Check::Refused {
-                why: h.why,
-                line: l,
-            };
+        let head = good(line, next.line)?;
+        let var = u64::from(head.var.0);
+        if var < least {
+            return Err(refused(Refusal::BadlyWritten, next.line));
         }
-        let v = h.var;
-        let n = v.0 as u64;
-        if n < least {
-            return Check::Refused {
-                why: BADLY_WRITTEN,
-                line: l,
-            };
-        }
-        least = n + 1;
-        p = h.next;
-        l = next_line(l);
+        least = var + 1;
+        next = behind(head, next.line);
     }
 }
 
 // The `end` line, and nothing behind it.
-fn check_end(h: Head, line: HirId, len: usize) -> Check
-    requires { line.0 < 4294967295 }
-    ensures { result ≡ end_of h line len }
+fn check_end(line: Result<Head, BadLine>, at: HirId, len: usize) -> Result<(), Refused>
+    requires { at.0 < 4294967295 }
+    ensures { EndAs line at len result }
 {
-    if h.why != ACCEPTED {
-        return Check::Refused { why: h.why, line };
+    let head = good(line, at)?;
+    if head.next != len {
+        return Err(refused(Refusal::BadlyWritten, next_line(at)));
     }
-    if h.next != len {
-        return Check::Refused {
-            why: BADLY_WRITTEN,
-            line: next_line(line),
-        };
-    }
-    Check::Fine { next: len, line }
+    Ok(())
 }
 
 // The clauses from `at` on, and the `end` line.
-fn check_clauses(sheet: &[u8], at: usize, line: HirId, depth: usize) -> Check
+fn check_clauses(sheet: &[u8], at: usize, line: HirId, depth: usize) -> Result<(), Refused>
     requires { TopAsk sheet.now at line.0 }
     ensures { ClausesAs depth sheet.now at line.0 result }
 {
-    let mut p = at;
-    let mut l = line;
+    let mut next = Next { at, line };
     loop {
-        let h = read_line(sheet, p, false);
-        if class_of(h.word) == line::AT_END {
-            return check_end(h, l, sheet.len());
+        let line = read_line(sheet, next.at);
+        if is_at(line, Place::End) {
+            return check_end(line, next.line, sheet.len());
         }
-        let why = verdict(h, line::AT_CLAUSE, depth);
-        if why != 0 {
-            return Check::Refused { why, line: l };
-        }
-        match check_kids(sheet, h, next_line(l), depth) {
-            Check::Fine { next, line } => {
-                p = next;
-                l = line;
-            }
-            Check::Refused { why, line } => {
-                return Check::Refused { why, line };
-            }
-        }
+        let clause = meet(line, next.line, Place::Clause, depth)?;
+        next = check_kids(sheet, clause, next_line(next.line), depth)?;
     }
 }
 
-// The sheet: refused for `why` at `line`; or, with `why` 0, its `b` lines from `from` to `to`, and its clauses from there on, the
-// first of them on line `line`.
-#[derive(Drop)]
+// A sheet that is whole: its `b` lines from `from` to `to`, and its clauses from there on, the first of them on line `line`.
+#[derive(Clone, Copy)]
 pub struct Outline {
-    pub why: u32,
     pub line: HirId,
     pub from: usize,
     pub to: usize,
 }
 
-fn refused(why: u32, line: HirId) -> Outline
-    ensures { (result.why ≡ why) × (result.line ≡ line) }
-{
-    Outline {
-        why,
-        line,
-        from: 0,
-        to: 0,
-    }
-}
-
 // The sheet behind its first line.
-fn check_rest(sheet: &[u8], from: usize, depth: usize) -> Outline
+fn check_rest(sheet: &[u8], from: usize, depth: usize) -> Result<Outline, Refused>
     requires { TopAsk sheet.now from 2 }
     ensures { RestAs depth sheet.now from result (check (bindings 0 depth ∷ []) 2 (split line_feed (drop from sheet.now))) }
 {
-    match check_binds(sheet, from, HirId(2)) {
-        Check::Refused { why, line } => refused(why, line),
-        Check::Fine { next, line } => {
-            match check_clauses(sheet, next, line, depth) {
-                Check::Refused { why, line: at } => refused(why, at),
-                Check::Fine { next: _, line: _ } => Outline {
-                    why: ACCEPTED,
-                    line,
-                    from,
-                    to: next,
-                },
-            }
-        }
-    }
+    let next = check_binds(sheet, from, HirId(2))?;
+    check_clauses(sheet, next.at, next.line, depth)?;
+    Ok(Outline {
+        line: next.line,
+        from,
+        to: next.at,
+    })
 }
 
 // The whole sheet, whose expressions may stand at most `depth` levels deep.
-pub fn check_sheet(sheet: &[u8], depth: usize) -> Outline
+pub fn check_sheet(sheet: &[u8], depth: usize) -> Result<Outline, Refused>
     requires { length sheet.now < 4294967294 }
     ensures { OutlineAs depth sheet.now result }
 {
-    let h = read_line(sheet, 0, false);
-    let why = verdict(h, line::AT_FIRST, depth);
-    if why != 0 {
-        return refused(why, HirId(1));
-    }
-    check_rest(sheet, h.next, depth)
+    let first = meet(read_line(sheet, 0), HirId(1), Place::First, depth)?;
+    check_rest(sheet, first.next, depth)
 }

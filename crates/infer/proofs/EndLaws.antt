@@ -1,10 +1,12 @@
--- The ends of expressions by the numbers of their rules, and the types of constants. Assumes nothing.
+-- The ends of expressions by their rules, and the types of constants. Assumes nothing.
 use mathlib.Core.Path.{◌≡◌, refl, sym, ◌∙◌, ap, subst}
 use mathlib.Core.List.{List, [], ◌∷◌, map}
 use mathlib.Core.Option.{Option, none, some}
+use mathlib.Core.Logic.{◌⊎◌, inl, inr}
+use Rattle.std.specs.declared.option.Option.{Option as Optional}
+use Rattle.std.specs.declared.option.Option.TheVariants.{Some}
 use mathlib.Core.Bool.{Bool, true, false, ◌&&◌}
-use borrow.Author.Tests.{eq-eqb}
-use Prim.Native.Nat.{ℕ, suc, zero, ◌≤◌, ◌<◌}
+use Prim.Native.Nat.{ℕ, suc, zero, ◌≤◌}
 use native.Mathlib.Omega.{arith}
 use lib.Dec.{eqb, leb}
 use lib.ListN.{length, take, drop, length-take}
@@ -20,7 +22,7 @@ use Rattle.semantics.proofs.Reader.{unhex-sound}
 use Rattle.text.specs.Text.{digit_of}
 use Rattle.text.proofs.Words.{values-unhex}
 use Rattle.semantics.proofs.Words.{every-where}
-use Rattle.line.specs.Rows.{word_no}
+use Rattle.line.specs.Words.{word_of}
 use Rattle.line.specs.Line.{Plain, unknown, known, word_says, pieces_say, line_says}
 use Rattle.line.specs.declared.line.Head.{Head as Seen}
 use Rattle.hir.specs.Lines.{LineAt}
@@ -34,12 +36,12 @@ use Rattle.walk_run.specs.Run.{Kept, empty, over, kept, both, items, last, entri
 use Rattle.exprs.specs.State.{text_of, place, ArmForm}
 use Rattle.exprs.specs.declared.state.Accumulator.{Accumulator}
 use Rattle.exprs.specs.End.{Ends, Countable, KeptAt, TwoAt, SomeTwo, SomeOne, arg_kept, SomeArg, SomeItems, SomeArms, SomeLast}
-use Rattle.exprs.specs.declared.state.Ended.{Ended}
-use Rattle.exprs.specs.declared.state.Ended.TheVariants.{Typed}
-use Rattle.exprs.specs.Rules.{typing_no, rule_no, ConstantBy}
+use Rattle.exprs.specs.declared.state.Typed.{Typed}
+use Rattle.exprs.specs.declared.rule.Rule.{Rule}
+use Rattle.exprs.specs.declared.rule.Rule.TheVariants.{Constant, Variable, Element, Slice, Listing, Mapping, Call, Operator, Unary, Casing, Membership, Comprehension, Silent, Entry}
+use Rattle.exprs.specs.Rules.{typing_rule, line_rule, ConstantBy}
 use Rattle.infer.specs.Steps.{AtMostOne, One, Two, Items, LastOne, Entries, EnvAs, EndAt, SomeEnd, EndedBy, SpeltAs, QuietBy}
 use Rattle.infer.specs.declared.step.Env.{Env as Binds}
-use Rattle.exprs.proofs.RoleLaws.{Missed, missed-out}
 use Rattle.infer.proofs.StepLaws.{typing_of, typing-at}
 
 -- ## Names
@@ -61,9 +63,13 @@ name-spelt s n e = sym (subst (Maybe (λ (m : Bytes). (map hex m ≡ s) × Digit
 -- ## Variables
 
 -- only `var` is a variable
-var-word : (v : Word) → rule_no (row v).rule ≡ 1 → v ≡ var_word
-unfolding row rule_no typing_no
-var-word v e = every-where (λ (v : Word). eqb (rule_no (row v).rule) 1) (λ (v : Word). v) var_word refl v (eq-eqb (rule_no (row v).rule) 1 e)
+abbrev is_variable : Rule → Bool
+is_variable Variable = true
+is_variable _ = false
+
+var-word : (v : Word) → line_rule (row v).rule ≡ Variable → v ≡ var_word
+unfolding row line_rule typing_rule
+var-word v e = every-where (λ (v : Word). is_variable (line_rule (row v).rule)) (λ (v : Word). v) var_word refl v (ap is_variable e)
 
 -- ## What is kept, by its form
 
@@ -179,82 +185,95 @@ module _ {q : Typing} {k : Kept} {hd : Head} {sheet : Bytes} {h : Seen} {s : Byt
       let r = rw e at d.room in
       record { at = rw e at (at-kept d); room = r.0; small = r.1 }
 
--- ## The number of a line's rule
+-- ## A line's rule
 
-abbrev pub RuleNo : ℕ → Seen → Type 0
-RuleNo i h = (v : Word) → h.word ≡ word_no v → i ≡ rule_no (row v).rule
+abbrev pub RuleIs : Rule → Seen → Type 0
+RuleIs i h = i ≡ line_rule (row (word_of h.word)).rule
 
-rule-of : {q : Typing} {k : Kept} {hd : Head} {sheet : Bytes} {h : Seen} {s : Bytes} {st : Accumulator} {i : ℕ} → RuleNo i h → EndAt q k hd sheet h s st → i ≡ typing_no q
-unfolding rule_no
-rule-of {hd = hd} f d = f hd.word d.head.word ∙ ap rule_no d.ruled
+rule-of : {q : Typing} {k : Kept} {hd : Head} {sheet : Bytes} {h : Seen} {s : Bytes} {st : Accumulator} {i : Rule} → RuleIs i h → EndAt q k hd sheet h s st → i ≡ typing_rule q
+unfolding line_rule
+rule-of f d = f ∙ ap (λ (v : Word). line_rule (row v).rule) d.head.word ∙ ap line_rule d.ruled
 
-pub typing-small : (q : Typing) → typing_no q < 12
-unfolding typing_no
-typing-small (constant t) = omega arith
-typing-small var_type = omega arith
-typing-small element = omega arith
-typing-small slicing = omega arith
-typing-small listing = omega arith
-typing-small mapping = omega arith
-typing-small calling = omega arith
-typing-small operator = omega arith
-typing-small unary = omega arith
-typing-small casing = omega arith
-typing-small membership = omega arith
-typing-small comprehension = omega arith
+-- what is typed by no rule is no expression
+typed-rule : (q : Typing) → (typing_rule q ≡ Silent) ⊎ (typing_rule q ≡ Entry) → ⊥
+unfolding typing_rule
+typed-rule (constant t) (inl e) = cc
+typed-rule (constant t) (inr e) = cc
+typed-rule var_type (inl e) = cc
+typed-rule var_type (inr e) = cc
+typed-rule element (inl e) = cc
+typed-rule element (inr e) = cc
+typed-rule slicing (inl e) = cc
+typed-rule slicing (inr e) = cc
+typed-rule listing (inl e) = cc
+typed-rule listing (inr e) = cc
+typed-rule mapping (inl e) = cc
+typed-rule mapping (inr e) = cc
+typed-rule calling (inl e) = cc
+typed-rule calling (inr e) = cc
+typed-rule operator (inl e) = cc
+typed-rule operator (inr e) = cc
+typed-rule unary (inl e) = cc
+typed-rule unary (inr e) = cc
+typed-rule casing (inl e) = cc
+typed-rule casing (inr e) = cc
+typed-rule membership (inl e) = cc
+typed-rule membership (inr e) = cc
+typed-rule comprehension (inl e) = cc
+typed-rule comprehension (inr e) = cc
 
--- behind the arms of the match only a comprehension is left
-pub last-rule : {q : Typing} {k : Kept} {hd : Head} {sheet : Bytes} {h : Seen} {s : Bytes} {st : Accumulator} {i : ℕ} → RuleNo i h → Missed 0 11 i → EndAt q k hd sheet h s st → i ≡ 11
-last-rule {q} {i = i} nr m d = omega (arith, rule-of nr d, typing-small q, missed-out 0 11 i m (omega arith))
+module _ {i : Rule} {sheet : Bytes} {b : Binds} {h : Seen} {s : Bytes} {st : Accumulator} {y : Tally} (nr : RuleIs i h) where
+  pub some-rule : SomeEnd sheet b h s st y → (i ≡ Silent) ⊎ (i ≡ Entry) → ⊥
+  some-rule d (inl e) = typed-rule d.typing (inl (sym (rule-of nr d.at) ∙ e))
+  some-rule d (inr e) = typed-rule d.typing (inr (sym (rule-of nr d.at) ∙ e))
 
-module _ {i : ℕ} {sheet : Bytes} {b : Binds} {h : Seen} {s : Bytes} {st : Accumulator} {y : Tally} (nr : RuleNo i h) where
   -- ## What the calls ask for
 
-  end-at : (n : ℕ) → 0 < n → i ≡ n → (d : SomeEnd sheet b h s st y) → EndAt (typing_of n) d.kept d.head sheet h s st
+  end-at : (n : Rule) → (n ≡ Constant → ⊥) → i ≡ n → (d : SomeEnd sheet b h s st y) → EndAt (typing_of n) d.kept d.head sheet h s st
   end-at n p e d = rw (typing-at d.typing i n (rule-of nr d.at) e p) at d.at
 
-  pub call-in : i ≡ 6 → SomeEnd sheet b h s st y → SomeArg s st × Countable y
-  call-in e d = let z = end-at 6 (omega arith) e d in (record { arg = arg_of d.kept; at = rw (arg_is d.kept z.whole) at (at-kept z) }, d.count)
+  pub call-in : i ≡ Call → SomeEnd sheet b h s st y → SomeArg s st × Countable y
+  call-in e d = let z = end-at Call (λ z. cc) e d in (record { arg = arg_of d.kept; at = rw (arg_is d.kept z.whole) at (at-kept z) }, d.count)
 
-  pub operator-in : i ≡ 7 → SomeEnd sheet b h s st y → SomeTwo s st × Countable y
-  operator-in e d = let z = end-at 7 (omega arith) e d in (record { left = first_of d.kept; right = second_of d.kept; at = at-two z z.whole }, d.count)
+  pub operator-in : i ≡ Operator → SomeEnd sheet b h s st y → SomeTwo s st × Countable y
+  operator-in e d = let z = end-at Operator (λ z. cc) e d in (record { left = first_of d.kept; right = second_of d.kept; at = at-two z z.whole }, d.count)
 
-  pub unary-in : i ≡ 8 → SomeEnd sheet b h s st y → SomeOne s st × Countable y
-  unary-in e d = let z = end-at 8 (omega arith) e d in (record { ty = first_of d.kept; at = at_one z z.whole }, d.count)
+  pub unary-in : i ≡ Unary → SomeEnd sheet b h s st y → SomeOne s st × Countable y
+  unary-in e d = let z = end-at Unary (λ z. cc) e d in (record { ty = first_of d.kept; at = at_one z z.whole }, d.count)
 
-  pub case-in : i ≡ 9 → SomeEnd sheet b h s st y → SomeArms s st
-  case-in e d = let z = end-at 9 (omega arith) e d in record { is = d.kept; form = z.whole; at = at-kept z; room = z.wide }
+  pub case-in : i ≡ Casing → SomeEnd sheet b h s st y → SomeArms s st
+  case-in e d = let z = end-at Casing (λ z. cc) e d in record { is = d.kept; form = z.whole; at = at-kept z; room = z.wide }
 
-  pub member-in : i ≡ 10 → SomeEnd sheet b h s st y → SomeTwo s st × Countable y
-  member-in e d = let z = end-at 10 (omega arith) e d in (record { left = first_of d.kept; right = second_of d.kept; at = at-two z z.whole }, d.count)
+  pub member-in : i ≡ Membership → SomeEnd sheet b h s st y → SomeTwo s st × Countable y
+  member-in e d = let z = end-at Membership (λ z. cc) e d in (record { left = first_of d.kept; right = second_of d.kept; at = at-two z z.whole }, d.count)
 
-  pub last-in : i ≡ 11 → SomeEnd sheet b h s st y → SomeLast s st
+  pub last-in : i ≡ Comprehension → SomeEnd sheet b h s st y → SomeLast s st
   last-in e d =
-      let z = end-at 11 (omega arith) e d in
+      let z = end-at Comprehension (λ z. cc) e d in
       let l = last-is d.kept z.whole in
       record { ty = l.ty; at = rw l.is at (at-kept z) }
 
-  pub element-in : i ≡ 2 → SomeEnd sheet b h s st y → SomeOne s st
-  element-in e d = let z = end-at 2 (omega arith) e d in record { ty = first_of d.kept; at = at_one z z.whole }
+  pub element-in : i ≡ Element → SomeEnd sheet b h s st y → SomeOne s st
+  element-in e d = let z = end-at Element (λ z. cc) e d in record { ty = first_of d.kept; at = at_one z z.whole }
 
-  pub slice_in : i ≡ 3 → SomeEnd sheet b h s st y → SomeOne s st
-  slice_in e d = let z = end-at 3 (omega arith) e d in record { ty = first_of d.kept; at = at_one z z.whole }
+  pub slice_in : i ≡ Slice → SomeEnd sheet b h s st y → SomeOne s st
+  slice_in e d = let z = end-at Slice (λ z. cc) e d in record { ty = first_of d.kept; at = at_one z z.whole }
 
-  pub list-in : i ≡ 4 → SomeEnd sheet b h s st y → SomeItems s st
-  list-in e d = let z = end-at 4 (omega arith) e d in record { element = item_of d.kept; at = rw (items-is d.kept z.whole) at (at-kept z) }
+  pub list-in : i ≡ Listing → SomeEnd sheet b h s st y → SomeItems s st
+  list-in e d = let z = end-at Listing (λ z. cc) e d in record { element = item_of d.kept; at = rw (items-is d.kept z.whole) at (at-kept z) }
 
 -- ## What they ensure
 
-module _ {i : ℕ} {sheet : Bytes} {b : Binds} {h : Seen} {s s' : Bytes} {st : Accumulator} {out out' : Bytes} {y : Tally} {r : Ended} (nr : RuleNo i h) where
-  ends_by : (n : ℕ) → 0 < n → i ≡ n → ((k : Kept) (hd : Head) (env : Env) → EndAt (typing_of n) k hd sheet h s st → Ends (end (typing_of n) env hd k) s s' out out' y r)
+module _ {i : Rule} {sheet : Bytes} {b : Binds} {h : Seen} {s s' : Bytes} {st : Accumulator} {out out' : Bytes} {y : Tally} {r : Optional Typed} (nr : RuleIs i h) where
+  ends_by : (n : Rule) → (n ≡ Constant → ⊥) → i ≡ n → ((k : Kept) (hd : Head) (env : Env) → EndAt (typing_of n) k hd sheet h s st → Ends (end (typing_of n) env hd k) s s' out out' y r)
       → EndedBy sheet b h s s' st out out' y r
   ends_by n p e f q k hd env d w = let z = typing-at q i n (rule-of nr d) e p in rw z (f k hd env (rw z at d))
 
-  pub end-call : {x : Bytes} {j : ℕ} → i ≡ 6 → SpeltAs h.name h.stop j → x ≡ slice j h.stop sheet
+  pub end-call : {x : Bytes} {j : ℕ} → i ≡ Call → SpeltAs h.name h.stop j → x ≡ slice j h.stop sheet
       → ((a : Option Ty) → KeptAt (arg_kept a) s st → Ends (told (call_type (lookup (map digit_of x)) (args_of (arg_kept a))) (call_faults (lookup (map digit_of x)) (args_of (arg_kept a)))) s s' out out' y r)
       → EndedBy sheet b h s s' st out out' y r
   unfolding end
-  end-call {x} e p z f = ends_by 6 (omega arith) e go
+  end-call {x} e p z f = ends_by Call (λ z. cc) e go
     where
       go : (k : Kept) (hd : Head) (env : Env) → EndAt calling k hd sheet h s st → Ends (end calling env hd k) s s' out out' y r
       go k hd env d =
@@ -263,31 +282,31 @@ module _ {i : ℕ} {sheet : Bytes} {b : Binds} {h : Seen} {s s' : Bytes} {st : A
           let u : args_of (arg_kept (arg_of k)) ≡ args_of k = sym (ap args_of a) in
           rw (n, u) at (f (arg_of k) (rw a at (at-kept d)))
 
-  pub end-operator : i ≡ 7 → ((a b : Ty) → TwoAt a b s st → Ends (end_op (op h.num) a b) s s' out out' y r) → EndedBy sheet b h s s' st out out' y r
+  pub end-operator : i ≡ Operator → ((a b : Ty) → TwoAt a b s st → Ends (end_op (op h.num) a b) s s' out out' y r) → EndedBy sheet b h s s' st out out' y r
   unfolding end
-  end-operator e f = ends_by 7 (omega arith) e go
+  end-operator e f = ends_by Operator (λ z. cc) e go
     where
       go : (k : Kept) (hd : Head) (env : Env) → EndAt operator k hd sheet h s st → Ends (end operator env hd k) s s' out out' y r
       go k hd env d = subst (λ (m : ℕ). Ends (end_op (op m) (first_of k) (second_of k)) s s' out out' y r) d.head.num (f (first_of k) (second_of k) (at-two d d.whole))
 
-  pub end-unary : i ≡ 8 → ((t : Ty) → KeptAt (kept t) s st → Ends (told (unary_type h.num t) (unary_faults h.num t)) s s' out out' y r) → EndedBy sheet b h s s' st out out' y r
+  pub end-unary : i ≡ Unary → ((t : Ty) → KeptAt (kept t) s st → Ends (told (unary_type h.num t) (unary_faults h.num t)) s s' out out' y r) → EndedBy sheet b h s s' st out out' y r
   unfolding end
-  end-unary e f = ends_by 8 (omega arith) e go
+  end-unary e f = ends_by Unary (λ z. cc) e go
     where
       go : (k : Kept) (hd : Head) (env : Env) → EndAt unary k hd sheet h s st → Ends (end unary env hd k) s s' out out' y r
       go k hd env d = subst (λ (m : ℕ). Ends (told (unary_type m (first_of k)) (unary_faults m (first_of k))) s s' out out' y r) d.head.num (f (first_of k) (at_one d d.whole))
 
-  pub end-case : i ≡ 9 → ((k : Kept) → ArmForm k → KeptAt k s st → Ends (end_case k) s s' out out' y r) → EndedBy sheet b h s s' st out out' y r
+  pub end-case : i ≡ Casing → ((k : Kept) → ArmForm k → KeptAt k s st → Ends (end_case k) s s' out out' y r) → EndedBy sheet b h s s' st out out' y r
   unfolding end
-  end-case e f = ends_by 9 (omega arith) e (λ k hd env d. f k d.whole (at-kept d))
+  end-case e f = ends_by Casing (λ z. cc) e (λ k hd env d. f k d.whole (at-kept d))
 
-  pub end-in : i ≡ 10 → ((a b : Ty) → TwoAt a b s st → Ends (end_in a b) s s' out out' y r) → EndedBy sheet b h s s' st out out' y r
+  pub end-in : i ≡ Membership → ((a b : Ty) → TwoAt a b s st → Ends (end_in a b) s s' out out' y r) → EndedBy sheet b h s s' st out out' y r
   unfolding end
-  end-in e f = ends_by 10 (omega arith) e (λ k hd env d. f (first_of k) (second_of k) (at-two d d.whole))
+  end-in e f = ends_by Membership (λ z. cc) e (λ k hd env d. f (first_of k) (second_of k) (at-two d d.whole))
 
-  pub end-last : i ≡ 11 → ((t : Ty) → KeptAt (last (some t)) s st → Ends (end_last (last (some t))) s s' out out' y r) → EndedBy sheet b h s s' st out out' y r
+  pub end-last : i ≡ Comprehension → ((t : Ty) → KeptAt (last (some t)) s st → Ends (end_last (last (some t))) s s' out out' y r) → EndedBy sheet b h s s' st out out' y r
   unfolding end
-  end-last e f = ends_by 11 (omega arith) e go
+  end-last e f = ends_by Comprehension (λ z. cc) e go
     where
       go : (k : Kept) (hd : Head) (env : Env) → EndAt comprehension k hd sheet h s st → Ends (end comprehension env hd k) s s' out out' y r
       go k hd env d = let l = last-is k d.whole in subst (λ (j : Kept). Ends (end_last j) s s' out out' y r) (sym l.is) (f l.ty (rw l.is at (at-kept d)))
@@ -324,33 +343,42 @@ map-tells (last e) = tells (t_map ∅ᶠ)
 map-tells (entries fs) = tells (t_map fs)
 map-tells (arms ms) = tells (t_map ∅ᶠ)
 
-quiet-tells : (q : Typing) (env : Env) (hd : Head) (k : Kept) → typing_no q < 6 → Telling (end q env hd k)
-unfolding end typing_no
+abbrev pub quiet : Rule → Bool
+quiet Constant = true
+quiet Variable = true
+quiet Element = true
+quiet Slice = true
+quiet Listing = true
+quiet Mapping = true
+quiet _ = false
+
+quiet-tells : (q : Typing) (env : Env) (hd : Head) (k : Kept) → quiet (typing_rule q) ≡ true → Telling (end q env hd k)
+unfolding end typing_rule
 quiet-tells (constant t) env hd k l = tells t
 quiet-tells var_type env hd k l = tells (var_type_of hd.var env)
 quiet-tells element env hd k l = tells (element_of (first_of k))
 quiet-tells slicing env hd k l = tells (list_or (base t_any) (first_of k))
 quiet-tells listing env hd k l = list_tells k
 quiet-tells mapping env hd k l = map-tells k
-quiet-tells calling env hd k l = absurd (omega arith)
-quiet-tells operator env hd k l = absurd (omega arith)
-quiet-tells unary env hd k l = absurd (omega arith)
-quiet-tells casing env hd k l = absurd (omega arith)
-quiet-tells membership env hd k l = absurd (omega arith)
-quiet-tells comprehension env hd k l = absurd (omega arith)
+quiet-tells calling env hd k l = cc
+quiet-tells operator env hd k l = cc
+quiet-tells unary env hd k l = cc
+quiet-tells casing env hd k l = cc
+quiet-tells membership env hd k l = cc
+quiet-tells comprehension env hd k l = cc
 
--- whatever line it is, its rule has this number
-abbrev pub Ruled : ℕ → Bytes → Seen → Bytes → Accumulator → Type 0
-Ruled i sheet h s st = (q : Typing) (k : Kept) (hd : Head) → EndAt q k hd sheet h s st → i ≡ typing_no q
+-- whatever line it is, this is its rule
+abbrev pub Ruled : Rule → Bytes → Seen → Bytes → Accumulator → Type 0
+Ruled i sheet h s st = (q : Typing) (k : Kept) (hd : Head) → EndAt q k hd sheet h s st → i ≡ typing_rule q
 
-pub by-rule : {i : ℕ} {sheet : Bytes} {h : Seen} {s : Bytes} {st : Accumulator} → RuleNo i h → Ruled i sheet h s st
+pub by-rule : {i : Rule} {sheet : Bytes} {h : Seen} {s : Bytes} {st : Accumulator} → RuleIs i h → Ruled i sheet h s st
 by-rule nr q k hd d = rule-of nr d
 
-pub settled : {i : ℕ} {sheet : Bytes} {b : Binds} {h : Seen} {s s' : Bytes} {st : Accumulator} {out : Bytes} {y : Tally} {r : ℕ} → Ruled i sheet h s st → i < 6 → QuietBy i sheet b h s s' st r
-    → EndedBy sheet b h s s' st out out y (Typed r y)
+pub settled : {i : Rule} {sheet : Bytes} {b : Binds} {h : Seen} {s s' : Bytes} {st : Accumulator} {out : Bytes} {y : Tally} {r : ℕ} → Ruled i sheet h s st → quiet i ≡ true → QuietBy i sheet b h s s' st r
+    → EndedBy sheet b h s s' st out out y (Some (record { len = r; tally = y }))
 settled nr l f q k hd env d w =
     let e = nr q k hd d in
-    let t = quiet-tells q env hd k (omega (arith, e, l)) in
+    let t = quiet-tells q env hd k (sym (ap quiet e) ∙ l) in
     let z = f q k hd env e d w t.ty t.is in
     rw t.is (record { answer = (z.at, adds_none); long = z.long; as_long = refl })
 
@@ -359,51 +387,51 @@ settled nr l f q k hd env d w =
 told_same : {t u : Ty} → told t [] ≡ told u [] → t ≡ u
 told_same e = cc
 
-module _ {i : ℕ} {sheet : Bytes} {b : Binds} {h : Seen} {s s' : Bytes} {st : Accumulator} {r : ℕ} where
-  quiet_by : (n : ℕ) → 0 < n → i ≡ n → ((k : Kept) (hd : Head) (env : Env) → EndAt (typing_of n) k hd sheet h s st → EnvAs sheet b env → (t : Ty) → end (typing_of n) env hd k ≡ told t [] → Returned s s' t r)
+module _ {i : Rule} {sheet : Bytes} {b : Binds} {h : Seen} {s s' : Bytes} {st : Accumulator} {r : ℕ} where
+  quiet_by : (n : Rule) → (n ≡ Constant → ⊥) → i ≡ n → ((k : Kept) (hd : Head) (env : Env) → EndAt (typing_of n) k hd sheet h s st → EnvAs sheet b env → (t : Ty) → end (typing_of n) env hd k ≡ told t [] → Returned s s' t r)
       → QuietBy i sheet b h s s' st r
   quiet_by n p e f q k hd env g d w t x = let z = typing-at q i n g e p in f k hd env (rw z at d) w t (rw z at x)
 
-  pub quiet-constant : i ≡ 0 → ConstantBy h.word s s' r → QuietBy i sheet b h s s' st r
-  unfolding end typing_no
+  pub quiet-constant : i ≡ Constant → ConstantBy h.word s s' r → QuietBy i sheet b h s s' st r
+  unfolding end typing_rule
   quiet-constant e f q k hd env g d w t x = go q g d x
     where
-      go : (q : Typing) → i ≡ typing_no q → EndAt q k hd sheet h s st → end q env hd k ≡ told t [] → Returned s s' t r
-      go (constant c) g d x = f hd.word t d.head.word (d.ruled ∙ ap (λ (u : Ty). typed (constant u)) (told_same x))
-      go var_type g d x = absurd (omega arith)
-      go element g d x = absurd (omega arith)
-      go slicing g d x = absurd (omega arith)
-      go listing g d x = absurd (omega arith)
-      go mapping g d x = absurd (omega arith)
-      go calling g d x = absurd (omega arith)
-      go operator g d x = absurd (omega arith)
-      go unary g d x = absurd (omega arith)
-      go casing g d x = absurd (omega arith)
-      go membership g d x = absurd (omega arith)
-      go comprehension g d x = absurd (omega arith)
+      go : (q : Typing) → i ≡ typing_rule q → EndAt q k hd sheet h s st → end q env hd k ≡ told t [] → Returned s s' t r
+      go (constant c) g d x = f t (ap (λ (v : Word). (row v).rule) d.head.word ∙ d.ruled ∙ ap (λ (u : Ty). typed (constant u)) (told_same x))
+      go var_type g d x = cc
+      go element g d x = cc
+      go slicing g d x = cc
+      go listing g d x = cc
+      go mapping g d x = cc
+      go calling g d x = cc
+      go operator g d x = cc
+      go unary g d x = cc
+      go casing g d x = cc
+      go membership g d x = cc
+      go comprehension g d x = cc
 
-  pub quiet-variable : i ≡ 1 → ((b' : BindsAt sheet b.from b.to) → TypeAt s' 0 r (kind_type (bind_kind h.var.0 b'.heads))) × (length s' ≡ length s) → QuietBy i sheet b h s s' st r
-  unfolding end var_type_of typing_no rule_no
-  quiet-variable e a = quiet_by 1 (omega arith) e go
+  pub quiet-variable : i ≡ Variable → ((b' : BindsAt sheet b.from b.to) → TypeAt s' 0 r (kind_type (bind_kind h.var.0 b'.heads))) × (length s' ≡ length s) → QuietBy i sheet b h s s' st r
+  unfolding end var_type_of typing_rule line_rule
+  quiet-variable e a = quiet_by Variable (λ z. cc) e go
     where
       go : (k : Kept) (hd : Head) (env : Env) → EndAt var_type k hd sheet h s st → EnvAs sheet b env → (t : Ty) → end var_type env hd k ≡ told t [] → Returned s s' t r
       go k hd env d w t x =
-          let v = d.variable (var-word hd.word (ap rule_no d.ruled)) in
+          let v = d.variable (var-word hd.word (ap line_rule d.ruled)) in
           let n : kind_type (bind_kind h.var.0 w.binds.heads) ≡ kind_type (bind_kind (variable_of hd) w.binds.heads) = ap (λ (i : ℕ). kind_type (bind_kind i w.binds.heads)) d.head.var in
           let u : kind_type (bind_kind h.var.0 w.binds.heads) ≡ t = n ∙ (sym (w.same (variable_of hd)) ∙ (sym (ap (λ (o : Option ℕ). var_type_of o env) v) ∙ told_same x)) in
           record { at = subst (λ (z : Ty). TypeAt s' 0 r z) u (a.0 w.binds); long = a.1 }
 
-  pub quiet-element : i ≡ 2 → (length s' ≡ length s) × ((t : Ty) → KeptAt (kept t) s st → TypeAt s' 0 r (element_of t)) → QuietBy i sheet b h s s' st r
+  pub quiet-element : i ≡ Element → (length s' ≡ length s) × ((t : Ty) → KeptAt (kept t) s st → TypeAt s' 0 r (element_of t)) → QuietBy i sheet b h s s' st r
   unfolding end
-  quiet-element e a = quiet_by 2 (omega arith) e (λ k hd env d w t x. record { at = subst (λ (z : Ty). TypeAt s' 0 r z) (told_same x) (a.1 (first_of k) (at_one d d.whole)); long = a.0 })
+  quiet-element e a = quiet_by Element (λ z. cc) e (λ k hd env d w t x. record { at = subst (λ (z : Ty). TypeAt s' 0 r z) (told_same x) (a.1 (first_of k) (at_one d d.whole)); long = a.0 })
 
-  pub quiet-slice : i ≡ 3 → (length s' ≡ length s) × ((t : Ty) → KeptAt (kept t) s st → TypeAt s' 0 r (list_or (base t_any) t)) → QuietBy i sheet b h s s' st r
+  pub quiet-slice : i ≡ Slice → (length s' ≡ length s) × ((t : Ty) → KeptAt (kept t) s st → TypeAt s' 0 r (list_or (base t_any) t)) → QuietBy i sheet b h s s' st r
   unfolding end
-  quiet-slice e a = quiet_by 3 (omega arith) e (λ k hd env d w t x. record { at = subst (λ (z : Ty). TypeAt s' 0 r z) (told_same x) (a.1 (first_of k) (at_one d d.whole)); long = a.0 })
+  quiet-slice e a = quiet_by Slice (λ z. cc) e (λ k hd env d w t x. record { at = subst (λ (z : Ty). TypeAt s' 0 r z) (told_same x) (a.1 (first_of k) (at_one d d.whole)); long = a.0 })
 
-  pub quiet-list : i ≡ 4 → (length s' ≡ length s) × ((o : Option Ty) → KeptAt (items o) s st → (t : Ty) → end_list (items o) ≡ told t [] → TypeAt s' 0 r t) → QuietBy i sheet b h s s' st r
+  pub quiet-list : i ≡ Listing → (length s' ≡ length s) × ((o : Option Ty) → KeptAt (items o) s st → (t : Ty) → end_list (items o) ≡ told t [] → TypeAt s' 0 r t) → QuietBy i sheet b h s s' st r
   unfolding end
-  quiet-list e a = quiet_by 4 (omega arith) e go
+  quiet-list e a = quiet_by Listing (λ z. cc) e go
     where
       go : (k : Kept) (hd : Head) (env : Env) → EndAt listing k hd sheet h s st → EnvAs sheet b env → (t : Ty) → end listing env hd k ≡ told t [] → Returned s s' t r
       go k hd env d w t x = let o = items-is k d.whole in record { at = a.1 (item_of k) (rw o at (at-kept d)) t (rw o at x); long = a.0 }
@@ -415,9 +443,9 @@ map_at {s} {st} fs k =
     let f = k.state.front in
     record { ordered = omega arith; inside = omega (arith, e, ap length f, length-take (length (line (t_map fs))) s); is = ap (λ (m : ℕ). take m s) e ∙ f }
 
-pub quiet-map : {i : ℕ} {sheet : Bytes} {b : Binds} {h : Seen} {s : Bytes} {st : Accumulator} → i ≡ 5 → QuietBy i sheet b h s s st st.len
+pub quiet-map : {i : Rule} {sheet : Bytes} {b : Binds} {h : Seen} {s : Bytes} {st : Accumulator} → i ≡ Mapping → QuietBy i sheet b h s s st st.len
 unfolding end end_map
-quiet-map {i} {sheet} {b} {h} {s} {st} e = quiet_by 5 (omega arith) e go
+quiet-map {i} {sheet} {b} {h} {s} {st} e = quiet_by Mapping (λ z. cc) e go
   where
     go : (k : Kept) (hd : Head) (env : Env) → EndAt mapping k hd sheet h s st → EnvAs sheet b env → (t : Ty) → end mapping env hd k ≡ told t [] → Returned s s t st.len
     go k hd env d w t x =

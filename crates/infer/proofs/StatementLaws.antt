@@ -7,13 +7,13 @@ use Prim.Native.Nat.{ℕ, suc, ◌+◌, ◌-◌, ◌*◌, ◌≤◌, ◌<◌, �
 use native.Mathlib.Decide.{dec_lt}
 use native.Mathlib.Omega.{arith}
 use lib.Dec.{ltb}
-use lib.ListN.{length, get_or, take, drop, length-append}
+use lib.ListN.{length, take, drop, length-append}
 use lib.Seq.{slice, sets, length-sets}
 use borrow.Author.Tests.{ltb-false}
 use Rattle.semantics.specs.Limits.{type_limit, nesting_limit}
 use Rattle.semantics.specs.Bytes.{Bytes, split}
 use Rattle.semantics.specs.Ty.{Ty, line, nesting, too_large}
-use Rattle.semantics.specs.Sheet.{Head, expression_place, at, rank, place, arity}
+use Rattle.semantics.specs.Sheet.{Word, Head, expression_place, at, row, rank, place, arity}
 use Rattle.semantics.specs.Walk.{Env, Res, Top, walk, all_tests}
 use Rattle.semantics.specs.Calls.{first_large, fault_count, top_line, report}
 use Rattle.semantics.proofs.All.{all_take}
@@ -21,21 +21,20 @@ use Rattle.walk_run.specs.Run.{judged_by, judged}
 use Rattle.walk_run.proofs.Steps.{first, first-append}
 use Rattle.walk_run.proofs.Fine.{step-fine, walk_fine}
 use Rattle.text.specs.Text.{Ends}
-use Rattle.line.specs.Arrays.{classes}
-use Rattle.line.specs.Rows.{word_no}
-use Rattle.line.specs.Line.{HeadIs, ReadAs}
+use Rattle.line.specs.Words.{word_of}
+use Rattle.line.specs.declared.words.Word.{Word as Coded}
+use Rattle.line.specs.Line.{HeadIs, Named}
+use Rattle.line.specs.Known.{KnownAs}
 use Rattle.line.specs.Opening.{WordIs, FirstWord, OpensAs, BehindAs}
 use Rattle.line.specs.declared.opening.Opening.{Opening}
 use Rattle.line.proofs.LineLaws.{split-some}
-use Rattle.line.proofs.Rows.{class-rule}
 use Rattle.line.proofs.OpeningLaws.{behind-ends}
 use Rattle.line.specs.Known.{FineAt}
 use Rattle.line.specs.declared.line.Head.{Head as Seen}
-use Rattle.line.specs.declared.line.HirId.{HirId}
 use Rattle.hir.specs.Lines.{LineAt, Lines, no_line, a_line}
 use Rattle.line.proofs.KnownLaws.{same_place}
-use Rattle.hir.proofs.LinesLaws.{read_at}
-use Rattle.hir.proofs.PlaceLaws.{class_of, class-is}
+use Rattle.hir.specs.Check.{class_of}
+use Rattle.hir.proofs.PlaceLaws.{class-is}
 use Rattle.tops.specs.Tops.{top_of, out_tops}
 use Rattle.tops.specs.Standing.{Standing, Typed}
 use Rattle.tops.proofs.TopsLaws.{stand-some, stand-end, out-end, stand-skip, stand-expr}
@@ -50,8 +49,8 @@ use Rattle.infer.specs.Statement.{StatementAt, MadeAs}
 use Rattle.infer.specs.declared.step.Env.{Env as Binds}
 use Rattle.infer.specs.declared.walk.Cur.{Cur}
 use Rattle.infer.specs.declared.walk.Walk.{Walk}
-use Rattle.infer.specs.declared.walk.Walk.TheVariants.{Done, TooLarge}
-use Rattle.infer.specs.declared.statement.Report.TheVariants.{Made, TooLarge as Stopped}
+use Rattle.infer.specs.declared.walk.TooLarge.{TooLarge}
+use Rattle.std.specs.Prelude.{Result, Ok, Err, Option as Maybe, Some, None}
 
 -- ## Lines
 
@@ -106,20 +105,20 @@ record Told (r : Res) (work' out out' : Bytes) (y : Tally) (B : Cur → Type 0) 
   pub adds : Adds r.faults out out' y z
   pub behind : B c
 
-told : (r : Res) (work' out out' : Bytes) (y : Tally) (B : Cur → Type 0) (len : ℕ) (c : Cur) (z : Tally) → WalkedAs (judged r) work' out out' y B (Done len c z) → Told r work' out out' y B len c z
+told : (r : Res) (work' out out' : Bytes) (y : Tally) (B : Cur → Type 0) (len : ℕ) (c : Cur) (z : Tally) → WalkedAs (judged r) work' out out' y B (Ok (record { len = len; cur = c; tally = z })) → Told r work' out out' y B len c z
 unfolding judged
 told r work' out out' y B len c z x = go (first_large r.tests) refl x
   where
-    go : (o : Option ℕ) → first_large r.tests ≡ o → WalkedAs (judged_by o r) work' out out' y B (Done len c z) → Told r work' out out' y B len c z
+    go : (o : Option ℕ) → first_large r.tests ≡ o → WalkedAs (judged_by o r) work' out out' y B (Ok (record { len = len; cur = c; tally = z })) → Told r work' out out' y B len c z
     go none e w = record { fine = e; type = w.0; adds = w.1; behind = w.2 }
     go (some l) e w = absurd w
 
 -- or the line of a type that is too large
-halts : (r : Res) (work' out out' : Bytes) (y : Tally) (B : Cur → Type 0) (i : HirId) → WalkedAs (judged r) work' out out' y B (TooLarge i) → first_large r.tests ≡ some i.0
+halts : (r : Res) (work' out out' : Bytes) (y : Tally) (B : Cur → Type 0) (i : TooLarge) → WalkedAs (judged r) work' out out' y B (Err i) → first_large r.tests ≡ some i.0.0
 unfolding judged
 halts r work' out out' y B i x = go (first_large r.tests) refl x
   where
-    go : (o : Option ℕ) → first_large r.tests ≡ o → WalkedAs (judged_by o r) work' out out' y B (TooLarge i) → first_large r.tests ≡ some i.0
+    go : (o : Option ℕ) → first_large r.tests ≡ o → WalkedAs (judged_by o r) work' out out' y B (Err i) → first_large r.tests ≡ some i.0.0
     go none e w = absurd w
     go (some l) e w = e ∙ ap some (sym w)
 
@@ -183,10 +182,10 @@ module _ {levels : ℕ} {s : Bytes} {env : Env} {n : ℕ} {rest : List Head} {ou
 -- ## A line that is passed by its word and its LF alone
 
 -- the word, if the line is fine
-opened-word : {s : Bytes} {p q : ℕ} {h : Head} {r : Opening} → LineAt s p h q → OpensAs s p r → r.word ≡ word_no h.word
+opened-word : {s : Bytes} {p q : ℕ} {h : Head} {r : Opening} → LineAt s p h q → OpensAs s p r → Named r.word h.word
 opened-word {s} {p} {q} {h} {r} a o = go (split 10 (drop q s)) (split-some 10 (drop q s)) (subst (FirstWord r.word) a.stands o.word)
   where
-    go : (ls : List Bytes) → 0 < length ls → FirstWord r.word (a.text ∷ ls) → r.word ≡ word_no h.word
+    go : (ls : List Bytes) → 0 < length ls → FirstWord r.word (a.text ∷ ls) → Named r.word h.word
     go [] l w = absurd (omega arith)
     go (m ∷ ls) l w = subst (WordIs r.word) a.says w
 
@@ -225,30 +224,33 @@ module _ {levels : ℕ} {s : Bytes} {env : Env} {n : ℕ} {rest : List Head} {ou
 
   -- ## By its word
 
-  module _ {r : Opening} (o : OpensAs s c.at r) where
-    rank-here : get_or classes r.word 0 ≡ rank (place here.head)
-    rank-here = ap (λ (w : ℕ). get_or classes w 0) (opened-word here.line o) ∙ class-rule here.head.word
+  pub mid-word : {r : Opening} → OpensAs s c.at r → r.word ≡ None → ⊥
+  mid-word o e = subst (λ (x : Maybe Coded). Named x here.head.word) e (opened-word here.line o)
+
+  module _ {r : Opening} (o : OpensAs s c.at r) {w : Coded} (worded : r.word ≡ Some w) where
+    rank-here : rank (row (word_of w)).place ≡ rank (place here.head)
+    rank-here = ap (λ (v : Word). rank (row v).place) (subst (λ (x : Maybe Coded). Named x here.head.word) worded (opened-word here.line o))
 
     -- the class is that of the line when it is read
-    pub mid-class : (k : Seen) → ReadAs s c.at k (split 10 (drop c.at s)) → class_of k ≡ get_or classes r.word 0
-    mid-class k x = class-is s k here.head (read_at s c.at here.next here.head k here.line x).0 ∙ sym rank-here
+    pub mid-class : (k : Seen) → KnownAs s c.at k → class_of (Ok k) ≡ rank (row (word_of w)).place
+    mid-class k x = class-is s k here.head (x here.head here.next here.line).1 ∙ sym rank-here
 
     -- the end
-    pub mid-end : get_or classes r.word 0 ≡ 3 → {out' : Bytes} {f : ℕ} → Appends (end_text types y.faults) out out' y.fill f
-        → MadeAs (first_large (all_tests (walk env n rest))) (out_tops env n rest) out₀ out' (Made f)
-    mid-end e {out'} {f} w =
+    pub mid-end : rank (row (word_of w)).place ≡ 3 → {out' : Bytes} {f : ℕ} → Appends (end_text types y.faults) out out' y.fill f
+        → MadeAs (first_large (all_tests (walk env n rest))) (out_tops env n rest) out₀ out' (Ok f)
+    mid-end e {out'} {f} v =
         let three = sym rank-here ∙ e in
         let none_left = stand-end here.head here.tail stands three in
         let o = out-end env c.line.0 here.head three in
         let tops : out_tops env n rest ≡ m.ts = tops-here ∙ ap (λ (l : List Head). m.ts ++ out_tops env c.line.0 (here.head ∷ l)) none_left ∙ ap (λ (l : List Top). m.ts ++ l) o.0 ∙ append-nil m.ts in
         let tests : first_large (all_tests (walk env n rest)) ≡ none = tests-here ∙ ap (λ (l : List Head). first_large (all_tests (walk env c.line.0 (here.head ∷ l)))) none_left ∙ ap first_large o.1 ∙ unfold first_large in refl in
-        let whole : Appends (tops_text m.ts ++ end_text types y.faults) out₀ out' 0 f = m.text ▹ w in
+        let whole : Appends (tops_text m.ts ++ end_text types y.faults) out₀ out' 0 f = m.text ▹ v in
         let parts : tops_text m.ts ++ end_text types y.faults ≡ report m.ts = cc (report-parts m.ts, m.faults, m.count) in
         let long : f ≡ length (report m.ts) = omega (arith, whole.end, ap length parts) in
         rw (tests, tops) (long, whole.text ∙ ap (sets out₀ 0) parts)
 
     -- a line that is stepped over
-    pub mid-skip : (get_or classes r.word 0 ≡ 3 → ⊥) → (get_or classes r.word 0 ≡ 13 → ⊥) → (c' : Cur) → BehindAs s r.from c'.at × (c'.line.0 ≡ c.line.0 + 1) → Mid levels s env n rest out₀ out c' y types
+    pub mid-skip : (rank (row (word_of w)).place ≡ 3 → ⊥) → (rank (row (word_of w)).place ≡ 13 → ⊥) → (c' : Cur) → BehindAs s r.from c'.at × (c'.line.0 ≡ c.line.0 + 1) → Mid levels s env n rest out₀ out c' y types
     mid-skip a b c' p =
         let t = stand-skip env c.line.0 here.head here.tail stands (λ e. b (rank-here ∙ e)) (λ e. a (rank-here ∙ e)) in
         let l : suc c.line.0 ≡ c'.line.0 = omega (arith, p.1) in
@@ -272,15 +274,15 @@ module _ {levels : ℕ} {s : Bytes} {env : Env} {n : ℕ} {rest : List Head} {ou
 
   -- ## Read with its fields
 
-  module _ (k : Seen) (x : ReadAs s c.at k (split 10 (drop c.at s))) where
+  module _ (k : Seen) (x : KnownAs s c.at k) where
     seen : HeadIs s k here.head × (k.next ≡ here.next)
-    seen = read_at s c.at here.next here.head k here.line x
+    seen = let r = x here.head here.next here.line in (r.1, r.0)
 
-    rank_is : class_of k ≡ rank (place here.head)
+    rank_is : class_of (Ok k) ≡ rank (place here.head)
     rank_is = class-is s k here.head seen.0
 
     -- an expression
-    module _ (e : class_of k ≡ 13) where
+    module _ (e : class_of (Ok k) ≡ 13) where
       tree : Typed levels env c.line.0 here.head here.tail (result_of env c.line.0 here.head here.tail)
       tree = stand-expr env c.line.0 here.head here.tail stands (sym rank_is ∙ e)
 
@@ -319,7 +321,7 @@ module _ {levels : ℕ} {s : Bytes} {env : Env} {n : ℕ} {rest : List Head} {ou
       unfolding rank
       bound-faults = tree-faults env c.line.0 here.head here.tail tree.left (at expression_place levels) (omega arith) tree.met
 
-      module _ {b : Binds} (v : EnvAs s b env) {work work' out' : Bytes} {w : Walk} (g : ExprWalked s b k c levels work work' out out' y w) where
+      module _ {b : Binds} (v : EnvAs s b env) {work work' out' : Bytes} {w : Result Walk TooLarge} (g : ExprWalked s b k c levels work work' out out' y w) where
         abbrev res : Res
         res = result_of env c.line.0 here.head here.tail
 
@@ -334,16 +336,16 @@ module _ {levels : ℕ} {s : Bytes} {env : Env} {n : ℕ} {rest : List Head} {ou
         mid-as-long = walked.as_long
 
         -- too large
-        pub mid-large : (i : HirId) → w ≡ TooLarge i → (o : Bytes) → MadeAs (first_large (all_tests (walk env n rest))) (out_tops env n rest) out₀ o (Stopped i)
+        pub mid-large : (i : TooLarge) → w ≡ Err i → (o : Bytes) → MadeAs (first_large (all_tests (walk env n rest))) (out_tops env n rest) out₀ o (Err i)
         mid-large i f o =
-            let h : first_large res.tests ≡ some i.0 = halts res work' out out' y (Behind env s c.line.0 here.head here.tail tree.left) i (subst (λ (u : Walk). WalkedAs (judged res) work' out out' y (Behind env s c.line.0 here.head here.tail tree.left) u) f walked.answer) in
+            let h : first_large res.tests ≡ some i.0.0 = halts res work' out out' y (Behind env s c.line.0 here.head here.tail tree.left) i (subst (λ (u : Result Walk TooLarge). WalkedAs (judged res) work' out out' y (Behind env s c.line.0 here.head here.tail tree.left) u) f walked.answer) in
             let more = all_tests (walk env (c.line.0 + tree.lines) tree.left) in
-            let t : first_large (all_tests (walk env n rest)) ≡ some i.0 = tests-here ∙ ap first_large tree.tests ∙ first-append res.tests more ∙ ap (λ (q : Option ℕ). first q (first_large more)) h in
+            let t : first_large (all_tests (walk env n rest)) ≡ some i.0.0 = tests-here ∙ ap first_large tree.tests ∙ first-append res.tests more ∙ ap (λ (q : Option ℕ). first q (first_large more)) h in
             rw t refl
 
-        module _ {len : ℕ} {c' : Cur} {z : Tally} (f : w ≡ Done len c' z) where
+        module _ {len : ℕ} {c' : Cur} {z : Tally} (f : w ≡ Ok (record { len = len; cur = c'; tally = z })) where
           says : Told res work' out out' y (Behind env s c.line.0 here.head here.tail tree.left) len c' z
-          says = told res work' out out' y (Behind env s c.line.0 here.head here.tail tree.left) len c' z (subst (λ (u : Walk). WalkedAs (judged res) work' out out' y (Behind env s c.line.0 here.head here.tail tree.left) u) f walked.answer)
+          says = told res work' out out' y (Behind env s c.line.0 here.head here.tail tree.left) len c' z (subst (λ (u : Result Walk TooLarge). WalkedAs (judged res) work' out out' y (Behind env s c.line.0 here.head here.tail tree.left) u) f walked.answer)
 
           pub mid_len : len ≤ length work'
           mid_len = says.type.inside

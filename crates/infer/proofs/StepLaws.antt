@@ -1,8 +1,12 @@
--- A rule and a role by their numbers, and what is kept by them. Assumes nothing.
+-- What is kept by a rule and a role. Assumes nothing.
 use mathlib.Core.Path.{◌≡◌, refl, sym, ◌∙◌, ap}
-use mathlib.Core.List.{[], ◌∷◌, map}
+use mathlib.Core.List.{[], map}
 use mathlib.Core.Option.{Option, none, some}
-use Prim.Native.Nat.{ℕ, ◌+◌, ◌≤◌, ◌<◌}
+use mathlib.Core.Logic.{◌⊎◌, inl, inr}
+use mathlib.Core.Bool.{Bool, true, false}
+use Rattle.std.specs.declared.option.Option.{Option as Optional}
+use Rattle.std.specs.declared.option.Option.TheVariants.{Some, None}
+use Prim.Native.Nat.{ℕ, ◌+◌, ◌<◌}
 use native.Mathlib.Omega.{arith}
 use lib.ListN.{length, get_or}
 use lib.Seq.{length-sets}
@@ -19,22 +23,36 @@ use Rattle.report.specs.declared.Tally.{Tally}
 use Rattle.report.proofs.ReportLaws.{adds_none}
 use Rattle.exprs.specs.State.{StAs, FineKept, ChildAt, LastChild, FirstForm, Keeps, SomeItem, ItemKept, SomeEntry, EntryKept, SomeArm}
 use Rattle.exprs.specs.declared.state.Accumulator.{Accumulator}
-use Rattle.exprs.specs.declared.state.Keep.{Keep}
-use Rattle.exprs.specs.declared.state.Keep.TheVariants.{On, Large}
+use Rattle.exprs.specs.declared.rule.Rule.{Rule}
+use Rattle.exprs.specs.declared.rule.Rule.TheVariants.{Constant, Variable, Element, Slice, Listing, Mapping, Call, Operator, Unary, Casing, Membership, Comprehension, Silent, Entry}
+use Rattle.exprs.specs.declared.role.Role.{Role as CodeRole}
+use Rattle.exprs.specs.declared.role.Role.TheVariants.{Plain, Condition, Answer}
 use Rattle.exprs.proofs.FineLaws.{FineSome, start_fine, child-fine, child-last}
-use Rattle.exprs.specs.Rules.{typing_no, role_no, TwoKept, AnswerKept}
+use Rattle.exprs.specs.Rules.{typing_rule, child_role, TwoKept, AnswerKept}
 use Rattle.infer.specs.Steps.{AskedBy, Items, Lasts, Entries, RoomIn, StepAt, SomeStep, KeptBy, Steps}
-use Rattle.infer.specs.declared.step.Stepped.TheVariants.{On as Next, Large as Stop}
-use Rattle.exprs.proofs.RoleLaws.{Missed, missed-out}
 
--- ## Rules by their numbers
+-- ## Rules
 
-abbrev pub typing_of : ℕ → Typing
-typing_of i = get_or (constant (base t_any) ∷ var_type ∷ element ∷ slicing ∷ listing ∷ mapping ∷ calling ∷ operator ∷ unary ∷ casing ∷ membership ∷ comprehension ∷ []) i var_type
+-- how a rule types; of a constant with some type, and of a line that has none by no rule that is used
+abbrev pub typing_of : Rule → Typing
+typing_of Constant = constant (base t_any)
+typing_of Variable = var_type
+typing_of Element = element
+typing_of Slice = slicing
+typing_of Listing = listing
+typing_of Mapping = mapping
+typing_of Call = calling
+typing_of Operator = operator
+typing_of Unary = unary
+typing_of Casing = casing
+typing_of Membership = membership
+typing_of Comprehension = comprehension
+typing_of Silent = var_type
+typing_of Entry = var_type
 
-typing-is : (q : Typing) → 0 < typing_no q → q ≡ typing_of (typing_no q)
-unfolding typing_no
-typing-is (constant t) h = absurd (omega arith)
+typing-is : (q : Typing) → (typing_rule q ≡ Constant → ⊥) → q ≡ typing_of (typing_rule q)
+unfolding typing_rule
+typing-is (constant t) h = absurd (h refl)
 typing-is var_type h = refl
 typing-is element h = refl
 typing-is slicing h = refl
@@ -47,33 +65,33 @@ typing-is casing h = refl
 typing-is membership h = refl
 typing-is comprehension h = refl
 
-pub typing-at : (q : Typing) (i n : ℕ) → i ≡ typing_no q → i ≡ n → 0 < n → q ≡ typing_of n
-typing-at q i n e f h = typing-is q (omega arith) ∙ ap typing_of (sym e ∙ f)
+pub typing-at : (q : Typing) (i n : Rule) → i ≡ typing_rule q → i ≡ n → (n ≡ Constant → ⊥) → q ≡ typing_of n
+typing-at q i n e f h = typing-is q (λ z. h (sym f ∙ (e ∙ z))) ∙ ap typing_of (sym e ∙ f)
 
 -- ## Before the first child
 
-module _ {s : Bytes} {r : Accumulator} (q : Typing) (i : ℕ) (e : i ≡ typing_no q) where
+module _ {s : Bytes} {r : Accumulator} (q : Typing) (i : Rule) (e : i ≡ typing_rule q) where
   started : (k : Kept) → start q ≡ k → StAs k s r → StAs (start q) s r × FineKept (start q)
   started k z a = (rw z a, start_fine q)
 
-  pub start-list : i ≡ 4 → StAs (items none) s r → StAs (start q) s r × FineKept (start q)
+  pub start-list : i ≡ Listing → StAs (items none) s r → StAs (start q) s r × FineKept (start q)
   unfolding start
-  start-list f a = started (items none) (rw (typing-at q i 4 e f (omega arith))) a
+  start-list f a = started (items none) (rw (typing-at q i Listing e f (λ z. cc))) a
 
-  pub start-map : i ≡ 5 → StAs (entries ∅ᶠ) s r → StAs (start q) s r × FineKept (start q)
+  pub start-map : i ≡ Mapping → StAs (entries ∅ᶠ) s r → StAs (start q) s r × FineKept (start q)
   unfolding start
-  start-map f a = started (entries ∅ᶠ) (rw (typing-at q i 5 e f (omega arith))) a
+  start-map f a = started (entries ∅ᶠ) (rw (typing-at q i Mapping e f (λ z. cc))) a
 
-  pub start-arms : i ≡ 9 → StAs (arms []) s r → StAs (start q) s r × FineKept (start q)
+  pub start-arms : i ≡ Casing → StAs (arms []) s r → StAs (start q) s r × FineKept (start q)
   unfolding start
-  start-arms f a = started (arms []) (rw (typing-at q i 9 e f (omega arith))) a
+  start-arms f a = started (arms []) (rw (typing-at q i Casing e f (λ z. cc))) a
 
-  pub start-last : i ≡ 11 → StAs (last none) s r → StAs (start q) s r × FineKept (start q)
+  pub start-last : i ≡ Comprehension → StAs (last none) s r → StAs (start q) s r × FineKept (start q)
   unfolding start
-  start-last f a = started (last none) (rw (typing-at q i 11 e f (omega arith))) a
+  start-last f a = started (last none) (rw (typing-at q i Comprehension e f (λ z. cc))) a
 
-nothing-first : (q : Typing) (i : ℕ) → i ≡ typing_no q → (i ≡ 4 → ⊥) → (i ≡ 5 → ⊥) → (i ≡ 9 → ⊥) → (i ≡ 11 → ⊥) → start q ≡ empty
-unfolding start typing_no
+nothing-first : (q : Typing) (i : Rule) → i ≡ typing_rule q → (i ≡ Listing → ⊥) → (i ≡ Mapping → ⊥) → (i ≡ Casing → ⊥) → (i ≡ Comprehension → ⊥) → start q ≡ empty
+unfolding start typing_rule
 nothing-first (constant t) i e a b c d = refl
 nothing-first var_type i e a b c d = refl
 nothing-first element i e a b c d = refl
@@ -87,48 +105,56 @@ nothing-first casing i e a b c d = absurd (c e)
 nothing-first membership i e a b c d = refl
 nothing-first comprehension i e a b c d = absurd (d e)
 
-pub start-empty : {s : Bytes} {r : Accumulator} (q : Typing) (i : ℕ) → i ≡ typing_no q → (i ≡ 4 → ⊥) → (i ≡ 5 → ⊥) → (i ≡ 9 → ⊥) → (i ≡ 11 → ⊥) → StAs empty s r → StAs (start q) s r × FineKept (start q)
+pub start-empty : {s : Bytes} {r : Accumulator} (q : Typing) (i : Rule) → i ≡ typing_rule q → (i ≡ Listing → ⊥) → (i ≡ Mapping → ⊥) → (i ≡ Casing → ⊥) → (i ≡ Comprehension → ⊥) → StAs empty s r → StAs (start q) s r × FineKept (start q)
 start-empty q i e a b c d z = (rw (nothing-first q i e a b c d) z, start_fine q)
 
--- ## What is kept, by the number of the rule
+-- ## What is kept, by the rule
 
 -- the first child's type stays
 abbrev FirstKept : Accumulator → ℕ → Accumulator → Type 0
 FirstKept st n b = (s : Bytes) (k : Kept) (t : Ty) → FirstForm k → ChildAt k t s st n → StAs (keep_first k t) s b
 
-module _ {i r : ℕ} {s : Bytes} {st : Accumulator} {n : ℕ} {x : Bytes} where
-  -- the rule of this number is q'
-  keeps-by : {s' : Bytes} {a : Keep} (q' : Typing) → ((q : Typing) → i ≡ typing_no q → q ≡ q')
-      → ((p : Role) (k : Kept) (t : Ty) (m : Bytes) → r ≡ role_no p → StepAt q' p k t m s st n x → Keeps (child q' p k m t) s s' a) → KeptBy i r s s' st n x a
+-- rules that keep something of a child
+abbrev has_children : Rule → Bool
+has_children Constant = false
+has_children Variable = false
+has_children Silent = false
+has_children Entry = false
+has_children _ = true
+
+module _ {i : Rule} {r : CodeRole} {s : Bytes} {st : Accumulator} {n : ℕ} {x : Bytes} where
+  -- the rule is that of q'
+  keeps-by : {s' : Bytes} {a : Optional Accumulator} (q' : Typing) → ((q : Typing) → i ≡ typing_rule q → q ≡ q')
+      → ((p : Role) (k : Kept) (t : Ty) (m : Bytes) → r ≡ child_role p → StepAt q' p k t m s st n x → Keeps (child q' p k m t) s s' a) → KeptBy i r s s' st n x a
   keeps-by q' u f q p k t m g h d = rw (u q g) (f p k t m h (rw (u q g) at d))
 
-  pub keep-element : {b : Accumulator} → i ≡ 2 → FirstKept st n b → KeptBy i r s s st n x (On b)
+  keep-element : {b : Accumulator} → i ≡ Element → FirstKept st n b → KeptBy i r s s st n x (Some b)
   unfolding child
-  keep-element e f = keeps-by element (λ q g. typing-at q i 2 g e (omega arith)) (λ p k t m h d. record { kept = f s k t d.before d.at; long = refl })
+  keep-element e f = keeps-by element (λ q g. typing-at q i Element g e (λ z. cc)) (λ p k t m h d. record { kept = f s k t d.before d.at; long = refl })
 
-  pub keep-slice : {b : Accumulator} → i ≡ 3 → FirstKept st n b → KeptBy i r s s st n x (On b)
+  keep-slice : {b : Accumulator} → i ≡ Slice → FirstKept st n b → KeptBy i r s s st n x (Some b)
   unfolding child
-  keep-slice e f = keeps-by slicing (λ q g. typing-at q i 3 g e (omega arith)) (λ p k t m h d. record { kept = f s k t d.before d.at; long = refl })
+  keep-slice e f = keeps-by slicing (λ q g. typing-at q i Slice g e (λ z. cc)) (λ p k t m h d. record { kept = f s k t d.before d.at; long = refl })
 
-  pub keep-call : {b : Accumulator} → i ≡ 6 → FirstKept st n b → KeptBy i r s s st n x (On b)
+  keep-call : {b : Accumulator} → i ≡ Call → FirstKept st n b → KeptBy i r s s st n x (Some b)
   unfolding child
-  keep-call e f = keeps-by calling (λ q g. typing-at q i 6 g e (omega arith)) (λ p k t m h d. record { kept = f s k t d.before d.at; long = refl })
+  keep-call e f = keeps-by calling (λ q g. typing-at q i Call g e (λ z. cc)) (λ p k t m h d. record { kept = f s k t d.before d.at; long = refl })
 
-  pub keep-unary : {b : Accumulator} → i ≡ 8 → FirstKept st n b → KeptBy i r s s st n x (On b)
+  keep-unary : {b : Accumulator} → i ≡ Unary → FirstKept st n b → KeptBy i r s s st n x (Some b)
   unfolding child
-  keep-unary e f = keeps-by unary (λ q g. typing-at q i 8 g e (omega arith)) (λ p k t m h d. record { kept = f s k t d.before d.at; long = refl })
+  keep-unary e f = keeps-by unary (λ q g. typing-at q i Unary g e (λ z. cc)) (λ p k t m h d. record { kept = f s k t d.before d.at; long = refl })
 
-  pub keep-operator : {b : Accumulator} → i ≡ 7 → TwoKept st n b → KeptBy i r s s st n x (On b)
+  keep-operator : {b : Accumulator} → i ≡ Operator → TwoKept st n b → KeptBy i r s s st n x (Some b)
   unfolding child
-  keep-operator e f = keeps-by operator (λ q g. typing-at q i 7 g e (omega arith)) (λ p k t m h d. record { kept = f s k t d.before d.at; long = refl })
+  keep-operator e f = keeps-by operator (λ q g. typing-at q i Operator g e (λ z. cc)) (λ p k t m h d. record { kept = f s k t d.before d.at; long = refl })
 
-  pub keep-membership : {b : Accumulator} → i ≡ 10 → TwoKept st n b → KeptBy i r s s st n x (On b)
+  keep-membership : {b : Accumulator} → i ≡ Membership → TwoKept st n b → KeptBy i r s s st n x (Some b)
   unfolding child
-  keep-membership e f = keeps-by membership (λ q g. typing-at q i 10 g e (omega arith)) (λ p k t m h d. record { kept = f s k t d.before d.at; long = refl })
+  keep-membership e f = keeps-by membership (λ q g. typing-at q i Membership g e (λ z. cc)) (λ p k t m h d. record { kept = f s k t d.before d.at; long = refl })
 
-  pub keep-last : {b : Accumulator} → i ≡ 11 → ((s : Bytes) (t : Ty) → LastChild t s st n → StAs (last (some t)) s b) → KeptBy i r s s st n x (On b)
+  pub keep-last : {b : Accumulator} → i ≡ Comprehension → ((s : Bytes) (t : Ty) → LastChild t s st n → StAs (last (some t)) s b) → KeptBy i r s s st n x (Some b)
   unfolding child
-  keep-last e f = keeps-by comprehension (λ q g. typing-at q i 11 g e (omega arith)) (λ p k t m h d. record { kept = f s t (go k t d.before d.at); long = refl })
+  keep-last e f = keeps-by comprehension (λ q g. typing-at q i Comprehension g e (λ z. cc)) (λ p k t m h d. record { kept = f s t (go k t d.before d.at); long = refl })
     where
       go : (k : Kept) (t : Ty) → Lasts k → ChildAt k t s st n → LastChild t s st n
       go empty t g c = absurd g
@@ -140,13 +166,13 @@ module _ {i r : ℕ} {s : Bytes} {st : Accumulator} {n : ℕ} {x : Bytes} where
       go (entries fs) t g c = absurd g
       go (arms ms) t g c = absurd g
 
-  pub keep-answer : {s' : Bytes} {b : Accumulator} → i ≡ 9 → AnswerKept r s s' st n b → KeptBy i r s s' st n x (On b)
+  pub keep-answer : {s' : Bytes} {b : Accumulator} → i ≡ Casing → AnswerKept r s s' st n b → KeptBy i r s s' st n x (Some b)
   unfolding child
-  keep-answer e a = keeps-by casing (λ q g. typing-at q i 9 g e (omega arith)) (λ p k t m h d. record { kept = a.kept p k t h d.before d.at; long = a.long })
+  keep-answer e a = keeps-by casing (λ q g. typing-at q i Casing g e (λ z. cc)) (λ p k t m h d. record { kept = a.kept p k t h d.before d.at; long = a.long })
 
-  pub keep-item : {s' : Bytes} {a : Keep} → i ≡ 4 → ItemKept s s' st n a → KeptBy i r s s' st n x a
+  pub keep-item : {s' : Bytes} {a : Optional Accumulator} → i ≡ Listing → ItemKept s s' st n a → KeptBy i r s s' st n x a
   unfolding child
-  keep-item {s'} {a} e f = keeps-by listing (λ q g. typing-at q i 4 g e (omega arith)) (λ p k t m h d. go k t d.before d.at)
+  keep-item {s'} {a} e f = keeps-by listing (λ q g. typing-at q i Listing g e (λ z. cc)) (λ p k t m h d. go k t d.before d.at)
     where
       go : (k : Kept) (t : Ty) → Items k → ChildAt k t s st n → Keeps (keep_item k t) s s' a
       go empty t g c = absurd g
@@ -158,9 +184,9 @@ module _ {i r : ℕ} {s : Bytes} {st : Accumulator} {n : ℕ} {x : Bytes} where
       go (entries fs) t g c = absurd g
       go (arms ms) t g c = absurd g
 
-  pub keep-entry : {s' : Bytes} {a : Keep} → i ≡ 5 → EntryKept s s' st n x a → KeptBy i r s s' st n x a
+  pub keep-entry : {s' : Bytes} {a : Optional Accumulator} → i ≡ Mapping → EntryKept s s' st n x a → KeptBy i r s s' st n x a
   unfolding child
-  keep-entry {s'} {a} e f = keeps-by mapping (λ q g. typing-at q i 5 g e (omega arith)) (λ p k t m h d. go k t m d.before d.at d.spelt)
+  keep-entry {s'} {a} e f = keeps-by mapping (λ q g. typing-at q i Mapping g e (λ z. cc)) (λ p k t m h d. go k t m d.before d.at d.spelt)
     where
       go : (k : Kept) (t : Ty) (m : Bytes) → Entries k → ChildAt k t s st n → x ≡ map hex m → Keeps (keep_entry k m t) s s' a
       go empty t m g c z = absurd g
@@ -172,34 +198,50 @@ module _ {i r : ℕ} {s : Bytes} {st : Accumulator} {n : ℕ} {x : Bytes} where
       go (entries fs) t m g c z = f fs t m c z
       go (arms ms) t m g c z = absurd g
 
-  pub keep-none : Missed 2 10 i → KeptBy i r s s st n x (On st)
-  unfolding child typing_no
+  pub keeps-first : {b : Accumulator} → (i ≡ Element) ⊎ ((i ≡ Slice) ⊎ ((i ≡ Call) ⊎ (i ≡ Unary))) → FirstKept st n b → KeptBy i r s s st n x (Some b)
+  keeps-first (inl e) f = keep-element e f
+  keeps-first (inr (inl e)) f = keep-slice e f
+  keeps-first (inr (inr (inl e))) f = keep-call e f
+  keeps-first (inr (inr (inr e))) f = keep-unary e f
+
+  pub keeps-two : {b : Accumulator} → (i ≡ Operator) ⊎ (i ≡ Membership) → TwoKept st n b → KeptBy i r s s st n x (Some b)
+  keeps-two (inl e) f = keep-operator e f
+  keeps-two (inr e) f = keep-membership e f
+
+  pub keep-none : (i ≡ Constant) ⊎ ((i ≡ Variable) ⊎ ((i ≡ Silent) ⊎ (i ≡ Entry))) → KeptBy i r s s st n x (Some st)
+  unfolding child typing_rule
   keep-none u q p k t m g h d = go q g d
     where
-      out : 2 ≤ i → 12 ≤ i
-      out l = missed-out 2 10 i u l
+      childless : (i ≡ Constant) ⊎ ((i ≡ Variable) ⊎ ((i ≡ Silent) ⊎ (i ≡ Entry))) → has_children i ≡ false
+      childless (inl e) = ap has_children e
+      childless (inr (inl e)) = ap has_children e
+      childless (inr (inr (inl e))) = ap has_children e
+      childless (inr (inr (inr e))) = ap has_children e
 
-      go : (q : Typing) → i ≡ typing_no q → StepAt q p k t m s st n x → Keeps (child q p k m t) s s (On st)
+      no : has_children i ≡ true → ⊥
+      no z = let f = childless u in cc
+
+      go : (q : Typing) → i ≡ typing_rule q → StepAt q p k t m s st n x → Keeps (child q p k m t) s s (Some st)
       go (constant t) g d = record { kept = d.at.state; long = refl }
       go var_type g d = record { kept = d.at.state; long = refl }
-      go element g d = absurd (omega (arith, out (omega arith)))
-      go slicing g d = absurd (omega (arith, out (omega arith)))
-      go listing g d = absurd (omega (arith, out (omega arith)))
-      go mapping g d = absurd (omega (arith, out (omega arith)))
-      go calling g d = absurd (omega (arith, out (omega arith)))
-      go operator g d = absurd (omega (arith, out (omega arith)))
-      go unary g d = absurd (omega (arith, out (omega arith)))
-      go casing g d = absurd (omega (arith, out (omega arith)))
-      go membership g d = absurd (omega (arith, out (omega arith)))
-      go comprehension g d = absurd (omega (arith, out (omega arith)))
+      go element g d = absurd (no (ap has_children g))
+      go slicing g d = absurd (no (ap has_children g))
+      go listing g d = absurd (no (ap has_children g))
+      go mapping g d = absurd (no (ap has_children g))
+      go calling g d = absurd (no (ap has_children g))
+      go operator g d = absurd (no (ap has_children g))
+      go unary g d = absurd (no (ap has_children g))
+      go casing g d = absurd (no (ap has_children g))
+      go membership g d = absurd (no (ap has_children g))
+      go comprehension g d = absurd (no (ap has_children g))
 
   -- ## What the calls ask for
 
-  pub item_in : i ≡ 4 → SomeStep i r s st n x → SomeItem s st n
+  pub item_in : i ≡ Listing → SomeStep i r s st n x → SomeItem s st n
   item_in e d = go d.kept z.before z.at z.room
     where
       z : StepAt listing d.role d.kept d.ty d.name s st n x
-      z = rw (typing-at d.typing i 4 d.rule_is e (omega arith)) at d.at
+      z = rw (typing-at d.typing i Listing d.rule_is e (λ z. cc)) at d.at
 
       go : (k : Kept) → Items k → ChildAt k d.ty s st n → RoomIn k d.ty s (st.len + n) → SomeItem s st n
       go empty g c w = absurd g
@@ -211,11 +253,11 @@ module _ {i r : ℕ} {s : Bytes} {st : Accumulator} {n : ℕ} {x : Bytes} where
       go (entries fs) g c w = absurd g
       go (arms ms) g c w = absurd g
 
-  pub entry_in : i ≡ 5 → SomeStep i r s st n x → SomeEntry s st n x
+  pub entry_in : i ≡ Mapping → SomeStep i r s st n x → SomeEntry s st n x
   entry_in e d = go d.kept z.before z.at
     where
       z : StepAt mapping d.role d.kept d.ty d.name s st n x
-      z = rw (typing-at d.typing i 5 d.rule_is e (omega arith)) at d.at
+      z = rw (typing-at d.typing i Mapping d.rule_is e (λ z. cc)) at d.at
 
       go : (k : Kept) → Entries k → ChildAt k d.ty s st n → SomeEntry s st n x
       go empty g c = absurd g
@@ -227,54 +269,55 @@ module _ {i r : ℕ} {s : Bytes} {st : Accumulator} {n : ℕ} {x : Bytes} where
       go (entries fs) g c = record { before = fs; ty = d.ty; name = d.name; at = c; spelt = z.spelt; wide = z.wide }
       go (arms ms) g c = absurd g
 
-  pub arm_in : i ≡ 9 → SomeStep i r s st n x → SomeArm s st n
+  pub arm_in : i ≡ Casing → SomeStep i r s st n x → SomeArm s st n
   arm_in e d = record { before = d.kept; ty = d.ty; form = z.before; at = z.at }
     where
       z : StepAt casing d.role d.kept d.ty d.name s st n x
-      z = rw (typing-at d.typing i 9 d.rule_is e (omega arith)) at d.at
+      z = rw (typing-at d.typing i Casing d.rule_is e (λ z. cc)) at d.at
 
 -- ## What a child's type is asked for
 
-pub ask-bool : {i kind : ℕ} {out out' : Bytes} {y z : Tally} → i ≡ 1 → ((t : Ty) → kind_of t ≡ kind → Adds (require a_bool t) out out' y z) → AskedBy i kind out out' y z
-unfolding role_no asked
-ask-bool e f plain t g h = absurd (omega arith)
+pub ask-bool : {i : CodeRole} {kind : ℕ} {out out' : Bytes} {y z : Tally} → i ≡ Condition → ((t : Ty) → kind_of t ≡ kind → Adds (require a_bool t) out out' y z) → AskedBy i kind out out' y z
+unfolding child_role asked
+ask-bool e f plain t g h = cc
 ask-bool e f condition t g h = f t h
-ask-bool e f answer t g h = absurd (omega arith)
-ask-bool e f (inner q) t g h = absurd (omega arith)
+ask-bool e f answer t g h = cc
+ask-bool e f (inner q) t g h = cc
 
-pub ask-none : {i kind : ℕ} {out : Bytes} {y : Tally} → (i ≡ 1 → ⊥) → AskedBy i kind out out y y
-unfolding role_no asked
+pub ask-none : {i : CodeRole} {kind : ℕ} {out : Bytes} {y : Tally} → (i ≡ Plain) ⊎ (i ≡ Answer) → AskedBy i kind out out y y
+unfolding child_role asked
 ask-none e plain t g h = adds_none
-ask-none e condition t g h = absurd (e g)
+ask-none (inl e) condition t g h = cc
+ask-none (inr e) condition t g h = cc
 ask-none e answer t g h = adds_none
 ask-none e (inner q) t g h = adds_none
 
 -- ## After a child
 
-pub child-first : {i r : ℕ} {s : Bytes} {st : Accumulator} {n : ℕ} {x : Bytes} → SomeStep i r s st n x → st.len < length s
+pub child-first : {i : Rule} {r : CodeRole} {s : Bytes} {st : Accumulator} {n : ℕ} {x : Bytes} → SomeStep i r s st n x → st.len < length s
 child-first d = let c = d.at.at.child in omega (arith, two_at _ _ _ _ c, c.inside)
 
-pub child-kind : {i r : ℕ} {s : Bytes} {st : Accumulator} {n : ℕ} {x : Bytes} → SomeStep i r s st n x → SomeKind (get_or s st.len 0)
+pub child-kind : {i : Rule} {r : CodeRole} {s : Bytes} {st : Accumulator} {n : ℕ} {x : Bytes} → SomeStep i r s st n x → SomeKind (get_or s st.len 0)
 child-kind d = record { ty = d.ty; is = sym (kind_at _ _ _ _ d.at.at.child) }
 
-module _ {i r : ℕ} {s s' : Bytes} {st : Accumulator} {n : ℕ} {x out out' : Bytes} {y z : Tally} {a : Keep} (f : KeptBy i r s s' st n x a) (g : AskedBy r (get_or s st.len 0) out out' y z)
-    (q : Typing) (p : Role) (k : Kept) (t : Ty) (m : Bytes) (e : i ≡ typing_no q) (h : r ≡ role_no p) (d : StepAt q p k t m s st n x) where
+module _ {i : Rule} {r : CodeRole} {s s' : Bytes} {st : Accumulator} {n : ℕ} {x out out' : Bytes} {y z : Tally} {a : Optional Accumulator} (f : KeptBy i r s s' st n x a) (g : AskedBy r (get_or s st.len 0) out out' y z)
+    (q : Typing) (p : Role) (k : Kept) (t : Ty) (m : Bytes) (e : i ≡ typing_rule q) (h : r ≡ child_role p) (d : StepAt q p k t m s st n x) where
   adds : Adds (asked p t) out out' y z
   adds = g p t h (sym (kind_at _ _ _ _ d.at.child))
 
   as_long : length out' ≡ length out
   as_long = ap length adds.text ∙ simp length-sets
 
-  pub step-on : {b : Accumulator} → a ≡ On b → Steps (child q p k m t) p t s s' out out' y (Next b z)
+  pub step-on : {b : Accumulator} → a ≡ Some b → Steps (child q p k m t) p t s s' out out' y (Some (record { st = b; tally = z }))
   step-on {b} w = go (child q p k m t) (rw w at (f q p k t m e h d)) (child-fine q p k m t d.at.fine d.at.good)
     where
-      go : (o : Option Kept) → Keeps o s s' (On b) → FineSome o → Steps o p t s s' out out' y (Next b z)
+      go : (o : Option Kept) → Keeps o s s' (Some b) → FineSome o → Steps o p t s s' out out' y (Some (record { st = b; tally = z }))
       go none v u = absurd v.kept
       go (some j) v u = record { answer = (v.kept, u, adds); long = v.long; as_long = as_long }
 
-  pub step-large : a ≡ Large → Steps (child q p k m t) p t s s' out out' y Stop
+  pub step-large : a ≡ None → Steps (child q p k m t) p t s s' out out' y None
   step-large w = go (child q p k m t) (rw w at (f q p k t m e h d))
     where
-      go : (o : Option Kept) → Keeps o s s' Large → Steps o p t s s' out out' y Stop
+      go : (o : Option Kept) → Keeps o s s' None → Steps o p t s s' out out' y None
       go none v = record { answer = tt; long = v.long; as_long = as_long }
       go (some j) v = absurd v.kept

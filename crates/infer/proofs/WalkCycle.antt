@@ -1,52 +1,58 @@
 -- The walks with loops, at the values that their code has. Assumes nothing.
-use mathlib.Core.Path.{◌≡◌, refl, sym, ◌∙◌}
-use mathlib.Core.List.{List}
+use mathlib.Core.Path.{◌≡◌, refl, sym, ◌∙◌, ap, subst}
+use mathlib.Core.List.{List, [], ◌∷◌}
 use Prim.Native.Nat.{ℕ, suc, ◌+◌, ◌-◌, ◌*◌, ◌≤◌, ◌<◌}
 use native.Mathlib.Omega.{arith}
-use lib.ListN.{length, take, drop, get_or, set}
-use Rattle.semantics.specs.Bytes.{Bytes, split}
+use lib.ListN.{length, take, drop, get_or}
+use Rattle.semantics.specs.Bytes.{Bytes}
 use Rattle.semantics.specs.Sheet.{Word, Head, Place, Typing, rank, row, rule, roles, arity, place, at, plain}
 use Rattle.semantics.specs.Walk.{Env}
-use Rattle.line.specs.Rows.{word_no}
-use Rattle.line.specs.Line.{HeadIs, ReadAs}
+use Rattle.line.specs.Words.{word_of}
+use Rattle.line.specs.Line.{HeadIs}
+use Rattle.line.specs.Known.{KnownAs}
 use Rattle.line.specs.Known.{FineAt}
 use Rattle.line.specs.declared.line.Head.{Head as Seen}
 use Rattle.line.specs.declared.line.HirId.{HirId}
 use Rattle.hir.specs.Check.{KidsAs}
 use Rattle.hir.specs.declared.valid.Kids.{Kids}
-use Rattle.hir.proofs.PlaceLaws.{class_of, class-is}
+use Rattle.hir.specs.Check.{class_of}
+use Rattle.hir.proofs.PlaceLaws.{class-is}
 use Rattle.report.specs.declared.Tally.{Tally}
 use Rattle.walk_run.specs.Run.{start}
 use Rattle.exprs.specs.State.{StAs, FineKept}
 use Rattle.exprs.specs.declared.state.Accumulator.{Accumulator}
-use Rattle.exprs.specs.End.{Countable}
-use Rattle.exprs.specs.declared.state.Ended.{Ended}
-use Rattle.exprs.specs.Rules.{typing_no, rule_no, role_no}
+use Rattle.exprs.specs.End.{Countable, Puts}
+use Rattle.exprs.specs.declared.state.Typed.{Typed}
+use Rattle.exprs.specs.declared.rule.Rule.{Rule}
+use Rattle.exprs.specs.declared.role.Role.{Role as CodeRole}
+use Rattle.std.specs.declared.option.Option.{Option}
+use Rattle.std.specs.declared.option.Option.TheVariants.{Some, None}
+use Rattle.exprs.specs.Rules.{typing_rule, line_rule, child_role}
 use Rattle.infer.specs.Steps.{SomeStep, SteppedBy, EnvAs, SomeEnd, EndedBy, SpeltAs}
 use Rattle.infer.specs.declared.step.Env.{Env as Binds}
 use Rattle.infer.specs.declared.step.Stepped.{Stepped}
-use Rattle.infer.specs.declared.step.Stepped.TheVariants.{On, Large}
-use Rattle.infer.specs.Walks.{TreeAt, ExprAsk, ExprWalked, AnyAsk, AnyWalked, PatternAsk, PatternWalked, ToldAs}
+use Rattle.infer.specs.Walks.{TreeAt, ExprAsk, ExprWalked, AnyAsk, AnyWalked, PatternAsk, PatternWalked}
 use Rattle.infer.specs.declared.walk.Cur.{Cur}
 use Rattle.infer.specs.declared.walk.Walk.{Walk}
-use Rattle.infer.specs.declared.walk.Walk.TheVariants.{Done, TooLarge}
+use Rattle.infer.specs.declared.walk.TooLarge.{TooLarge}
+use Rattle.std.specs.Prelude.{Result, Ok, Err}
 use Rattle.infer.proofs.WalkTable.{typing_of}
-use Rattle.infer.proofs.WalkSmall.{asks-kids, rule-number}
+use Rattle.infer.proofs.WalkSmall.{asks-kids, kids-small, rule-number}
 use Rattle.infer.proofs.WalkLoop.{Base, expr-base, base-pos, base-typed, Loop, loop-start}
 use Rattle.infer.proofs.WalkTurn.{loop-inside}
-use Rattle.infer.proofs.WalkInfer.{Lent, Back, Held, len-inside, less, role-asks, child-known, child-ask, child-name, stop-inside, child-large, child-countable, some-step, step-long, step-out, step-large, step-on, some_end, end-walked, stopped-walked, child-long}
+use Rattle.infer.proofs.WalkInfer.{Lent, Back, Held, len-inside, less, role-asks, child-known, child-ask, child-name, stop-inside, child-large, child-countable, some-step, step-long, step-out, step-large, step-on, some_end, ended, end-walked, stopped-walked, child-long}
 use Rattle.infer.proofs.WalkPattern.{PatLoop, pat-start, pat-inside, pat-todo, pat-line, pat-first, pat-next, pat-read, pat-ask, pat-long, pat-out, pat-large, pat-down, pat-on, pass, pass-room, pat-end}
 
 -- ## What other functions say
 
-abbrev pub RuleAs : Seen → ℕ → Type 0
-RuleAs h r = (v : Word) → h.word ≡ word_no v → r ≡ rule_no (row v).rule
+abbrev pub RuleAs : Seen → Rule → Type 0
+RuleAs h r = r ≡ line_rule (row (word_of h.word)).rule
 
-abbrev pub RoleAs : Seen → ℕ → ℕ → Type 0
-RoleAs h j r = (s : Bytes) (hd : Head) → HeadIs s h hd → j < arity hd → r ≡ role_no (get_or (roles hd) j plain)
+abbrev pub RoleAs : Seen → ℕ → CodeRole → Type 0
+RoleAs h j r = (s : Bytes) (hd : Head) → HeadIs s h hd → j < arity hd → r ≡ child_role (get_or (roles hd) j plain)
 
-abbrev pub StartAs : ℕ → Bytes → Bytes → Accumulator → Type 0
-StartAs rl work_e work st = (length work ≡ length work_e) × ((q : Typing) → rl ≡ typing_no q → StAs (start q) work st × FineKept (start q))
+abbrev pub StartAs : Rule → Bytes → Bytes → Accumulator → Type 0
+StartAs rl work_e work st = (length work ≡ length work_e) × ((q : Typing) → rl ≡ typing_rule q → StAs (start q) work st × FineKept (start q))
 
 abbrev pub Past : Cur → ℕ → ℕ → Type 0
 Past c next line = (c.at ≡ next) × (c.line.0 ≡ line + 1)
@@ -59,7 +65,7 @@ pub record InferInv (s : Bytes) (b : Binds) (h : Seen) (depth : ℕ) (work₀ ou
   pub as_long : length out ≡ length out₀
 
 module _ {s : Bytes} {b : Binds} {h : Seen} {cur : Cur} {depth : ℕ} {work_e : Bytes} {y₀ : Tally} (x : ExprAsk s b h cur depth work_e y₀) where
-  pub infer-kids : (h.word < 64) × (h.count ≤ 9999) × (h.flag ≤ 3)
+  pub infer-kids : (h.count ≤ 9999) × (h.flag ≤ 3)
   infer-kids = asks-kids s h x.at.tree.head x.at.is
 
   pub infer-past : cur.line.0 < 4294967295
@@ -71,11 +77,11 @@ module _ {s : Bytes} {b : Binds} {h : Seen} {cur : Cur} {depth : ℕ} {work_e : 
   pub infer-pos : 1 ≤ depth
   infer-pos = base-pos (expr-base x.at)
 
-  pub infer-start : {out work : Bytes} {c : Cur} {st : Accumulator} {rl : ℕ} → Past c h.next cur.line.0 → RuleAs h rl → StartAs rl work_e work st
+  pub infer-start : {out work : Bytes} {c : Cur} {st : Accumulator} {rl : Rule} → Past c h.next cur.line.0 → RuleAs h rl → StartAs rl work_e work st
       → InferInv s b h depth work out cur.line y₀ work out c y₀ st 0
   infer-start {out} {work} {c} {st} {rl} p r a =
       record {
-        all = λ hd hs ks env B u. loop-start B env out work y₀ c st p (a.1 (typing_of (rule hd)) (rule-number hd (typing_of (rule hd)) rl (base-typed B) (r hd.word B.is.word)));
+        all = λ hd hs ks env B u. loop-start B env out work y₀ c st p (a.1 (typing_of (rule hd)) (rule-number hd (typing_of (rule hd)) rl (base-typed B) (r ∙ ap (λ (v : Word). line_rule (row v).rule) B.is.word)));
         long = refl;
         as_long = refl;
       }
@@ -101,14 +107,14 @@ module _ {s : Bytes} {b : Binds} {h : Seen} {cur : Cur} {depth : ℕ} {work_e : 
         pub infer-fine : FineAt s c.at
         infer-fine = child-known (expr-base x.at) x.bound infer-loop infer-room hung more
 
-        module _ (k : Seen) (read : ReadAs s c.at k (split 10 (drop c.at s))) where
+        module _ (k : Seen) (read : KnownAs s c.at k) where
           pub infer-child : AnyAsk s b k c (depth - 1) (Lent work st.len) y
           infer-child = child-ask (expr-base x.at) x.bound infer-loop infer-room hung more k read x.count
 
           pub infer-stop : k.stop ≤ length s
           infer-stop = stop-inside (expr-base x.at) x.bound infer-loop infer-room hung more k read
 
-          module _ {ys out' : Bytes} {a : Walk} (W : AnyWalked s b k c (depth - 1) (Lent work st.len) ys out out' y a) where
+          module _ {ys out' : Bytes} {a : Result Walk TooLarge} (W : AnyWalked s b k c (depth - 1) (Lent work st.len) ys out out' y a) where
             -- the child was too large
             pub infer-out : length out' ≡ length out₀
             infer-out = (child-long (expr-base x.at) x.bound infer-loop infer-room hung more k read W).1
@@ -116,15 +122,15 @@ module _ {s : Bytes} {b : Binds} {h : Seen} {cur : Cur} {depth : ℕ} {work_e : 
             pub infer-back : length (Back work st.len ys) ≡ length work_e
             infer-back = (child-long (expr-base x.at) x.bound infer-loop infer-room hung more k read W).0 ∙ i.long ∙ l₀
 
-            pub infer-halt : (m : HirId) → a ≡ TooLarge m → ExprWalked s b h cur depth work_e (Back work st.len ys) out₀ out' y₀ (TooLarge m)
+            pub infer-halt : (m : TooLarge) → a ≡ Err m → ExprWalked s b h cur depth work_e (Back work st.len ys) out₀ out' y₀ (Err m)
             infer-halt m e ζ env u =
                 let B = expr-base ζ in
                 stopped-walked m (child-large B u (i.all ζ.tree.head ζ.tree.under ζ.tree.rest env B u) infer-room hung more k read W m e) infer-back infer-out
 
-            module _ {len : ℕ} {c' : Cur} {z : Tally} (e : a ≡ Done len c' z) {st' : Accumulator} (held : Held st st') {p : ℕ} (spelt : SpeltAs k.name k.stop p)
-                {rl ro : ℕ} (ruled : RuleAs h rl) (played : RoleAs h j ro) where
-              ruled-as : {hd : Head} {hs ks : List Head} → Base s h cur.line.0 depth hd hs ks → rl ≡ typing_no (typing_of (rule hd))
-              ruled-as {hd} B = rule-number hd (typing_of (rule hd)) rl (base-typed B) (ruled hd.word B.is.word)
+            module _ {len : ℕ} {c' : Cur} {z : Tally} (e : a ≡ Ok (record { len = len; cur = c'; tally = z })) {st' : Accumulator} (held : Held st st') {p : ℕ} (spelt : SpeltAs k.name k.stop p)
+                {rl : Rule} {ro : CodeRole} (ruled : RuleAs h rl) (played : RoleAs h j ro) where
+              ruled-as : {hd : Head} {hs ks : List Head} → Base s h cur.line.0 depth hd hs ks → rl ≡ typing_rule (typing_of (rule hd))
+              ruled-as {hd} B = rule-number hd (typing_of (rule hd)) rl (base-typed B) (ruled ∙ ap (λ (v : Word). line_rule (row v).rule) B.is.word)
 
               pub infer-step : SomeStep rl ro (Back work st.len ys) st' len (take (k.stop - p) (drop p s)) × Countable z
               infer-step =
@@ -134,7 +140,7 @@ module _ {s : Bytes} {b : Binds} {h : Seen} {cur : Cur} {depth : ℕ} {work_e : 
                     child-countable B x.bound infer-loop infer-room hung more k read W e x.count,
                   )
 
-              module _ {work'' out'' : Bytes} {d : Stepped} (S : SteppedBy rl ro (Back work st.len ys) work'' st' len (take (k.stop - p) (drop p s)) out' out'' z d) where
+              module _ {work'' out'' : Bytes} {d : Option Stepped} (S : SteppedBy rl ro (Back work st.len ys) work'' st' len (take (k.stop - p) (drop p s)) out' out'' z d) where
                 pub infer-after : (length work'' ≡ length work) × (length out'' ≡ length out₀)
                 infer-after =
                     let B = expr-base x.at in
@@ -143,16 +149,16 @@ module _ {s : Bytes} {b : Binds} {h : Seen} {cur : Cur} {depth : ℕ} {work_e : 
                     (step-long B x.bound infer-loop infer-room hung more k read W e held n (ruled-as B) r S, step-out B x.bound infer-loop infer-room hung more k read W e held n (ruled-as B) r S)
 
                 -- what is kept is too large
-                pub infer-large : d ≡ Large → ExprWalked s b h cur depth work_e work'' out₀ out'' y₀ (TooLarge cur.line)
+                pub infer-large : d ≡ None → ExprWalked s b h cur depth work_e work'' out₀ out'' y₀ (Err (record { 0 = cur.line }))
                 infer-large f ζ env u =
                     let B = expr-base ζ in
                     let L = i.all ζ.tree.head ζ.tree.under ζ.tree.rest env B u in
-                    stopped-walked cur.line
+                    stopped-walked (record { 0 = cur.line })
                     (step-large B u L infer-room hung more k read W e held (child-name B u L infer-room hung more k read p spelt) (ruled-as B)
                     (played s ζ.tree.head B.is (less B u L infer-room hung more)) S f)
                     (infer-after.0 ∙ i.long ∙ l₀) infer-after.1
 
-                pub infer-on : {st'' : Accumulator} {y'' : Tally} → d ≡ On st'' y'' → InferInv s b h depth work₀ out₀ cur.line y₀ work'' out'' c' y'' st'' (j + 1)
+                pub infer-on : {st'' : Accumulator} {y'' : Tally} → d ≡ Some (record { st = st''; tally = y'' }) → InferInv s b h depth work₀ out₀ cur.line y₀ work'' out'' c' y'' st'' (j + 1)
                 infer-on f =
                     record {
                       all = λ hd hs ks env B u. let L = i.all hd hs ks env B u in
@@ -166,10 +172,17 @@ module _ {s : Bytes} {b : Binds} {h : Seen} {cur : Cur} {depth : ℕ} {work_e : 
         pub infer-finish : SomeEnd s b h work st y
         infer-finish = some_end (expr-base x.at) x.bound infer-loop infer-room hung over x.count
 
-        pub infer-end : {work' out' : Bytes} {e : Ended} {r : Walk} → EndedBy s b h work work' st out out' y e → ToldAs e cur.line c r → ExprWalked s b h cur depth work_e work' out₀ out' y₀ r
-        infer-end E t ζ env u =
+        infer-end : {work' out' : Bytes} {e : Option Typed} → EndedBy s b h work work' st out out' y e → ExprWalked s b h cur depth work_e work' out₀ out' y₀ (ended e cur.line c)
+        infer-end E ζ env u =
             let B = expr-base ζ in
-            end-walked B u (i.all ζ.tree.head ζ.tree.under ζ.tree.rest env B u) infer-room hung over cur.line refl E t (i.long ∙ l₀)
+            end-walked B u (i.all ζ.tree.head ζ.tree.under ζ.tree.rest env B u) infer-room hung over cur.line refl E (i.long ∙ l₀)
+
+        module _ {work' out' : Bytes} {e : Option Typed} (E : EndedBy s b h work work' st out out' y e) where
+          pub infer-typed : {r : Typed} → e ≡ Some r → ExprWalked s b h cur depth work_e work' out₀ out' y₀ (Ok (record { len = r.len; cur = c; tally = r.tally }))
+          infer-typed q = subst (λ (x : Option Typed). ExprWalked s b h cur depth work_e work' out₀ out' y₀ (ended x cur.line c)) q (infer-end E)
+
+          pub infer-untyped : e ≡ None → ExprWalked s b h cur depth work_e work' out₀ out' y₀ (Err (record { 0 = cur.line }))
+          infer-untyped q = subst (λ (x : Option Typed). ExprWalked s b h cur depth work_e work' out₀ out' y₀ (ended x cur.line c)) q (infer-end E)
 
 -- ## `check_pattern`
 
@@ -195,46 +208,49 @@ module _ {s : Bytes} {b : Binds} {c₀ : Cur} {depth : ℕ} {work₀ : Bytes} {y
   pub pattern-todo : todo < 4294967294
   pattern-todo = omega (arith, pat-todo pattern-loop, x.at.tree.room)
 
-  pub pattern-room : 2 ≤ length work
+  pub pattern-room : 1024 ≤ length work
   pattern-room = omega (arith, x.room, i.long)
 
   pub pattern-fine : 0 < todo → FineAt s c.at
   pattern-fine more = record { head = (pat-first pattern-loop more).head; next = (pat-next pattern-loop more).next; line = (pat-next pattern-loop more).line }
 
-  module _ (more : 0 < todo) (g : Seen) (read : ReadAs s c.at g (split 10 (drop c.at s))) where
-    pattern-class : {hd : Head} {hs ks : List Head} {env : Env} (L : PatLoop s depth c₀.line.0 hd hs ks env out₀ y₀ out c y todo) → class_of g ≡ rank (place (pat-first L more).head)
+  module _ (more : 0 < todo) (g : Seen) (read : KnownAs s c.at g) where
+    pattern-class : {hd : Head} {hs ks : List Head} {env : Env} (L : PatLoop s depth c₀.line.0 hd hs ks env out₀ y₀ out c y todo) → class_of (Ok g) ≡ rank (place (pat-first L more).head)
     pattern-class L = class-is s g (pat-first L more).head (pat-read L more g read).0
 
-    module _ (is : class_of g ≡ 13) where
+    module _ (is : class_of (Ok g) ≡ 13) where
       is_at : {hd : Head} {hs ks : List Head} {env : Env} (L : PatLoop s depth c₀.line.0 hd hs ks env out₀ y₀ out c y todo) → rank (place (pat-first L more).head) ≡ 13
       is_at L = sym (pattern-class L) ∙ is
 
       pub pattern-ask : ExprAsk s b g c depth work y
       pattern-ask = pat-ask pattern-loop more g read (is_at pattern-loop) x.bound (omega (arith, x.room, i.long)) x.count
 
-      module _ {work' out' : Bytes} {a : Walk} (W : ExprWalked s b g c depth work work' out out' y a) where
+      module _ {work' out' : Bytes} {a : Result Walk TooLarge} (W : ExprWalked s b g c depth work work' out out' y a) where
         pub pattern-long : length work' ≡ length work₀
         pattern-long = pat-long pattern-loop more g read (is_at pattern-loop) x.bound W ∙ i.long
 
         pub pattern-out : length out' ≡ length out₀
         pattern-out = pat-out pattern-loop more g read (is_at pattern-loop) x.bound W
 
-        pub pattern-stop : (m : HirId) → a ≡ TooLarge m → PatternWalked s b c₀ depth work₀ work' out₀ out' y₀ (TooLarge m)
+        pub pattern-stop : (m : TooLarge) → a ≡ Err m → PatternWalked s b c₀ depth work₀ work' out₀ out' y₀ (Err m)
         pattern-stop m e ζ env u =
             let L = i.all ζ.place ζ.tree ζ.inside env u in
             stopped-walked m (pat-large L more g read (is_at L) u W m e) pattern-long pattern-out
 
-        module _ {len : ℕ} {c' : Cur} {z : Tally} (e : a ≡ Done len c' z) where
+        module _ {len : ℕ} {c' : Cur} {z : Tally} (e : a ≡ Ok (record { len = len; cur = c'; tally = z })) where
           pub pattern-down : suc c.line.0 ≤ c'.line.0
           pattern-down = pat-down pattern-loop more g read (is_at pattern-loop) x.bound W e
 
           pub pattern-on : PatternInv s b depth work₀ out₀ c₀ y₀ work' out' c' z (todo - 1)
           pattern-on = record { all = λ p t q env u. let L = i.all p t q env u in pat-on L more g read (is_at L) u W e; long = pattern-long; as_long = pattern-out }
 
-    pub pattern-kids : (g.word < 64) × (g.count ≤ 9999) × (g.flag ≤ 3)
+    pub pattern-kids : (g.count ≤ 9999) × (g.flag ≤ 3)
     pattern-kids = asks-kids s g (pat-first pattern-loop more).head (pat-read pattern-loop more g read).0
 
-    module _ (isn't : class_of g ≡ 13 → ⊥) {kk : Kids} (hung : KidsAs g kk) where
+    pub pattern-small : {kk : Kids} → KidsAs g kk → kk.all < 131072
+    pattern-small {kk} = kids-small s g (pat-first pattern-loop more).head kk (pat-read pattern-loop more g read).0
+
+    module _ (isn't : class_of (Ok g) ≡ 13 → ⊥) {kk : Kids} (hung : KidsAs g kk) where
       pub pattern-past : c.line.0 < 4294967295
       pattern-past = pass-room pattern-loop more g read (λ e. isn't (pattern-class pattern-loop ∙ e)) hung
 
@@ -242,6 +258,6 @@ module _ {s : Bytes} {b : Binds} {c₀ : Cur} {depth : ℕ} {work₀ : Bytes} {y
       pattern-pass c' f =
           record { all = λ p t q env u. let L = i.all p t q env u in pass L more g read (λ e. isn't (pattern-class L ∙ e)) hung c' f; long = i.long; as_long = i.as_long }
 
-  pub pattern-end : todo ≤ 0 → PatternWalked s b c₀ depth work₀ (set (set work 0 80) 1 44) out₀ out y₀ (Done 2 c y)
-  pattern-end over ζ env u =
-      pat-end (i.all ζ.place ζ.tree ζ.inside env u) over work₀ work ζ.passes ζ.tree.met ζ.inside pattern-room i.long
+  pub pattern-end : todo ≤ 0 → {work' : Bytes} {len : ℕ} → Puts (80 ∷ 44 ∷ []) work work' len → PatternWalked s b c₀ depth work₀ work' out₀ out y₀ (Ok (record { len = len; cur = c; tally = y }))
+  pattern-end over p ζ env u =
+      rw (p.text, p.end) (pat-end (i.all ζ.place ζ.tree ζ.inside env u) over work₀ work ζ.passes ζ.tree.met ζ.inside (omega (arith, pattern-room)) i.long)

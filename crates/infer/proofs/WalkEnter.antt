@@ -3,24 +3,26 @@ use mathlib.Core.Path.{◌≡◌, refl, sym, ◌∙◌, ap, subst}
 use mathlib.Core.List.{List, [], ◌∷◌, map}
 use Prim.Native.Nat.{ℕ, suc, ◌+◌, ◌≤◌, ◌<◌}
 use native.Mathlib.Omega.{arith}
-use lib.ListN.{length, take, drop}
-use Rattle.semantics.specs.Bytes.{Bytes, split}
-use Rattle.semantics.specs.Sheet.{Head, Place, expression_place, Role, Typing, Rule, silent, entering, rule, roles, arity, rank, at, wanted}
+use lib.ListN.{length, take}
+use Rattle.semantics.specs.Bytes.{Bytes}
+use Rattle.semantics.specs.Sheet.{Word, Head, Place, expression_place, row, Role, Typing, Rule, silent, entering, rule, roles, arity, rank, at, wanted}
 use Rattle.semantics.specs.Walk.{Env, Res, step, walk}
-use Rattle.line.specs.Rows.{word_no}
-use Rattle.line.specs.Line.{HeadIs, ReadAs}
+use Rattle.line.specs.Words.{word_of}
+use Rattle.line.specs.Line.{HeadIs}
+use Rattle.line.specs.Known.{FineAt, KnownAs}
 use Rattle.line.specs.declared.line.Head.{Head as Seen}
 use Rattle.hir.specs.Lines.{LineAt, Lines, Met}
-use Rattle.hir.proofs.LinesLaws.{read_at}
-use Rattle.hir.proofs.PlaceLaws.{class_of, class-is}
+use Rattle.hir.specs.Check.{class_of}
+use Rattle.hir.proofs.PlaceLaws.{class-is}
 use Rattle.report.specs.declared.Tally.{Tally}
 use Rattle.walk_run.specs.Run.{Ran, halted, typed, judged}
 use Rattle.infer.specs.declared.step.Env.{Env as Binds}
 use Rattle.infer.specs.Walks.{result_of, Behind, WalkedAs, Walked, ExprAt, ExprAsk, ExprWalked, AnyAt, AnyAsk, AnyWalked, PatternAt, PatternAsk, PatternWalked, EntersAs}
 use Rattle.infer.specs.declared.walk.Cur.{Cur}
 use Rattle.infer.specs.declared.walk.Walk.{Walk}
-use Rattle.infer.specs.declared.walk.Walk.TheVariants.{Done, TooLarge}
-use Rattle.infer.proofs.WalkTable.{entry-roles, entry-arity, entry_place_lem, entering-no, silent-place, typed-place}
+use Rattle.infer.specs.declared.walk.TooLarge.{TooLarge}
+use Rattle.std.specs.Prelude.{Result, Ok, Err}
+use Rattle.infer.proofs.WalkTable.{entry-roles, entry-arity, entry_place_lem, silent-place, typed-place}
 use Rattle.infer.proofs.WalkTrees.{FirstLine, first-line, no-wants, First, first-met, met-rank, met-under, walk_first, tree-ends, judged-entry}
 use Rattle.infer.proofs.WalkPattern.{rank-expr, deeper-same}
 
@@ -28,25 +30,48 @@ use Rattle.infer.proofs.WalkPattern.{rank-expr, deeper-same}
 pub record Via (s : Bytes) (k : Seen) (c : Cur) (depth : ℕ) (a : AnyAt s k c depth) (e : Seen) (d : Cur) : Type 0 where
   pub expr : ExprAt s e d depth
   pub fewer : length expr.tree.under ≤ length a.tree.under
-  pub gives : (env : Env) (work work' out out' : Bytes) (y : Tally) (r : Walk) → Walked env s d.line.0 expr.tree.head expr.tree.under expr.tree.rest work work' out out' y r
+  pub gives : (env : Env) (work work' out out' : Bytes) (y : Tally) (r : Result Walk TooLarge) → Walked env s d.line.0 expr.tree.head expr.tree.under expr.tree.rest work work' out out' y r
       → Walked env s c.line.0 a.tree.head a.tree.under a.tree.rest work work' out out' y r
 
-walked-map : (j : Ran) (work' out out' : Bytes) (y : Tally) (B B' : Cur → Type 0) (r : Walk) → ((c : Cur) → B c → B' c) → WalkedAs j work' out out' y B r → WalkedAs j work' out out' y B' r
-walked-map (halted l) work' out out' y B B' (Done len c z) f w = w
-walked-map (halted l) work' out out' y B B' (TooLarge m) f w = w
-walked-map (typed t fs) work' out out' y B B' (Done len c z) f w = (w.0, w.1, f c w.2)
-walked-map (typed t fs) work' out out' y B B' (TooLarge m) f w = w
+walked-map : (j : Ran) (work' out out' : Bytes) (y : Tally) (B B' : Cur → Type 0) (r : Result Walk TooLarge) → ((c : Cur) → B c → B' c) → WalkedAs j work' out out' y B r → WalkedAs j work' out out' y B' r
+walked-map (halted l) work' out out' y B B' (Ok r) f w = w
+walked-map (halted l) work' out out' y B B' (Err m) f w = w
+walked-map (typed t fs) work' out out' y B B' (Ok r) f w = (w.0, w.1, f r.cur w.2)
+walked-map (typed t fs) work' out out' y B B' (Err m) f w = w
+
+-- an entry's expression stands on the line behind its own
+module _ {s : Bytes} {k : Seen} {c : Cur} {depth : ℕ} (a : AnyAt s k c depth) (t : rule a.tree.head ≡ entering) where
+  entry-rank : rank a.place ≡ 11
+  entry-rank = sym (met-rank a.tree.met) ∙ entry_place_lem a.tree.head t
+
+  entry_first : First (at expression_place depth) [] a.tree.under a.tree.rest
+  entry_first =
+      first-met (subst (λ (ps : List Role). Met (map (wanted depth) ps) a.tree.under a.tree.rest) (entry-roles a.tree.head t)
+      (subst (λ (x : ℕ). Met (map (wanted x) (roles a.tree.head)) a.tree.under a.tree.rest) (deeper-same a.place depth (λ z. omega (arith, entry-rank)))
+      (met-under a.inside a.tree.met)))
+
+  entry-line : FirstLine s a.tree.next entry_first.head entry_first.under (length s)
+  entry-line = first-line (subst (λ (x : List Head). Lines s a.tree.next x (length s)) entry_first.same a.tree.lines)
+
+-- the rule of a line by its word
+rule-of-word : {s : Bytes} {k : Seen} {h : Head} → HeadIs s k h → (row (word_of k.word)).rule ≡ rule h
+rule-of-word i = ap (λ (v : Word). (row v).rule) i.word
 
 module _ {s : Bytes} {k : Seen} {c : Cur} {depth : ℕ} (a : AnyAt s k c depth) {e : Seen} {d : Cur} (E : EntersAs s k c e d) where
   -- the line itself
-  itself : (word_no a.tree.head.word ≡ 40 → ⊥) → (e ≡ k) × (d ≡ c)
-  itself n = E.itself (λ w. n (sym a.is.word ∙ w))
+  itself : (rule a.tree.head ≡ entering → ⊥) → (e ≡ k) × (d ≡ c)
+  itself n = E.itself (λ w. n (sym (rule-of-word a.is) ∙ w))
+
+  typed-no : (q : Typing) → rule a.tree.head ≡ Rule.typed q → rule a.tree.head ≡ entering → ⊥
+  typed-no q t w = cc
+
+  silent-no : rule a.tree.head ≡ silent → rule a.tree.head ≡ entering → ⊥
+  silent-no t w = cc
 
   via-itself : (q : Typing) → rule a.tree.head ≡ Rule.typed q → Via s k c depth a e d
   via-itself q t =
-      let p = typed-place a.tree.head q t in
-      let i = itself p.1 in
-      let m : a.place ≡ expression_place = rank-expr a.place (sym (met-rank a.tree.met) ∙ p.0) in
+      let i = itself (typed-no q t) in
+      let m : a.place ≡ expression_place = rank-expr a.place (sym (met-rank a.tree.met) ∙ typed-place a.tree.head q t) in
       subst (λ (x : Cur). Via s k c depth a e x) (sym i.1) (subst (λ (x : Seen). Via s k c depth a x c) (sym i.0)
       (record {
         expr = record {
@@ -70,47 +95,35 @@ module _ {s : Bytes} {k : Seen} {c : Cur} {depth : ℕ} (a : AnyAt s k c depth) 
 
   -- an entry's expression
   module _ (t : rule a.tree.head ≡ entering) where
-    entry-rank : rank a.place ≡ 11
-    entry-rank = sym (met-rank a.tree.met) ∙ entry_place_lem a.tree.head t
+    entry_read : KnownAs s a.tree.next e × (d.at ≡ a.tree.next) × (d.line.0 ≡ c.line.0 + 1)
+    entry_read = subst (λ (x : ℕ). KnownAs s x e × (d.at ≡ x) × (d.line.0 ≡ c.line.0 + 1)) a.next (E.entry (rule-of-word a.is ∙ t))
 
-    entry_first : First (at expression_place depth) [] a.tree.under a.tree.rest
-    entry_first =
-        first-met (subst (λ (ps : List Role). Met (map (wanted depth) ps) a.tree.under a.tree.rest) (entry-roles a.tree.head t)
-        (subst (λ (x : ℕ). Met (map (wanted x) (roles a.tree.head)) a.tree.under a.tree.rest) (deeper-same a.place depth (λ z. omega (arith, entry-rank)))
-        (met-under a.inside a.tree.met)))
+    entry-is : HeadIs s e (entry_first a t).head × (e.next ≡ (entry-line a t).next)
+    entry-is = let x = entry_read.0 (entry_first a t).head (entry-line a t).next (entry-line a t).line in (x.1, x.0)
 
-    entry-line : FirstLine s a.tree.next entry_first.head entry_first.under (length s)
-    entry-line = first-line (subst (λ (x : List Head). Lines s a.tree.next x (length s)) entry_first.same a.tree.lines)
+    entry-last : (entry_first a t).behind ≡ a.tree.rest
+    entry-last = no-wants (entry_first a t).rest
 
-    entry_read : ReadAs s a.tree.next e (split 10 (drop a.tree.next s)) × (d.at ≡ a.tree.next) × (d.line.0 ≡ c.line.0 + 1)
-    entry_read = subst (λ (x : ℕ). ReadAs s x e (split 10 (drop x s)) × (d.at ≡ x) × (d.line.0 ≡ c.line.0 + 1)) a.next (E.entry (a.is.word ∙ entering-no a.tree.head t))
+    entry-met : Met (at expression_place depth ∷ []) ((entry_first a t).head ∷ (entry_first a t).under) a.tree.rest
+    entry-met = subst (λ (x : List Head). Met (at expression_place depth ∷ []) ((entry_first a t).head ∷ (entry_first a t).under) x) entry-last (entry_first a t).met
 
-    entry-is : HeadIs s e entry_first.head × (e.next ≡ entry-line.next)
-    entry-is = read_at s a.tree.next entry-line.next entry_first.head e entry-line.line entry_read.0
-
-    entry-last : entry_first.behind ≡ a.tree.rest
-    entry-last = no-wants entry_first.rest
-
-    entry-met : Met (at expression_place depth ∷ []) (entry_first.head ∷ entry_first.under) a.tree.rest
-    entry-met = subst (λ (x : List Head). Met (at expression_place depth ∷ []) (entry_first.head ∷ entry_first.under) x) entry-last entry_first.met
-
-    entry_gives : (env : Env) (work work' out out' : Bytes) (y : Tally) (r : Walk) → Walked env s d.line.0 entry_first.head entry_first.under a.tree.rest work work' out out' y r
+    entry_gives : (env : Env) (work work' out out' : Bytes) (y : Tally) (r : Result Walk TooLarge) → Walked env s d.line.0 (entry_first a t).head (entry_first a t).under a.tree.rest work work' out out' y r
         → Walked env s c.line.0 a.tree.head a.tree.under a.tree.rest work work' out out' y r
     entry_gives env work work' out out' y r w =
         let n = c.line.0 in
         let f = a.tree.head in
         let m : d.line.0 ≡ suc n = omega (arith, entry_read.2) in
-        let R = result_of env (suc n) entry_first.head entry_first.under in
+        let R = result_of env (suc n) (entry_first a t).head (entry_first a t).under in
         let o : take (arity f) (walk env (suc n) a.tree.under) ≡ R ∷ [] =
-        ap (λ (x : ℕ). take x (walk env (suc n) a.tree.under)) (entry-arity f t) ∙ ap (λ (x : List Head). take 1 (walk env (suc n) x)) entry_first.same ∙ walk_first env (suc n) 0 entry_first.head entry_first.under in
-        let j : judged (result_of env d.line.0 entry_first.head entry_first.under) ≡ judged (result_of env n f a.tree.under) =
-        ap (λ (x : ℕ). judged (result_of env x entry_first.head entry_first.under)) m ∙ sym (ap (λ (x : List Res). judged (step env n f x)) o ∙ judged-entry env n f R t) in
-        let la = ap length entry_first.same in
+        ap (λ (x : ℕ). take x (walk env (suc n) a.tree.under)) (entry-arity f t) ∙ ap (λ (x : List Head). take 1 (walk env (suc n) x)) (entry_first a t).same ∙ walk_first env (suc n) 0 (entry_first a t).head (entry_first a t).under in
+        let j : judged (result_of env d.line.0 (entry_first a t).head (entry_first a t).under) ≡ judged (result_of env n f a.tree.under) =
+        ap (λ (x : ℕ). judged (result_of env x (entry_first a t).head (entry_first a t).under)) m ∙ sym (ap (λ (x : List Res). judged (step env n f x)) o ∙ judged-entry env n f R t) in
+        let la = ap length (entry_first a t).same in
         record {
-          answer = walked-map (judged (result_of env n f a.tree.under)) work' out out' y (Behind env s d.line.0 entry_first.head entry_first.under a.tree.rest) (Behind env s n f a.tree.under a.tree.rest) r
+          answer = walked-map (judged (result_of env n f a.tree.under)) work' out out' y (Behind env s d.line.0 (entry_first a t).head (entry_first a t).under a.tree.rest) (Behind env s n f a.tree.under a.tree.rest) r
               (λ b x. let q : b.line.0 + length a.tree.rest ≡ n + suc (length a.tree.under) = omega (arith, x.count, la, m) in
               record { lines = x.lines; count = q; above = x.above; walked = tree-ends a.inside a.tree.met env n b.line.0 q })
-              (subst (λ (v : Ran). WalkedAs v work' out out' y (Behind env s d.line.0 entry_first.head entry_first.under a.tree.rest) r) j w.answer);
+              (subst (λ (v : Ran). WalkedAs v work' out out' y (Behind env s d.line.0 (entry_first a t).head (entry_first a t).under a.tree.rest) r) j w.answer);
           long = w.long;
           as_long = w.as_long;
         }
@@ -120,12 +133,12 @@ module _ {s : Bytes} {k : Seen} {c : Cur} {depth : ℕ} (a : AnyAt s k c depth) 
         record {
           expr = record {
             tree = record {
-              head = entry_first.head;
-              under = entry_first.under;
+              head = (entry_first a t).head;
+              under = (entry_first a t).under;
               rest = a.tree.rest;
-              next = entry-line.next;
-              line = subst (λ (x : ℕ). LineAt s x entry_first.head entry-line.next) (sym entry_read.1) entry-line.line;
-              lines = entry-line.lines;
+              next = (entry-line a t).next;
+              line = subst (λ (x : ℕ). LineAt s x (entry_first a t).head (entry-line a t).next) (sym entry_read.1) (entry-line a t).line;
+              lines = (entry-line a t).lines;
               met = entry-met;
               above = omega (arith, entry_read.1, entry_read.2, a.tree.above, a.tree.line.on);
               room = a.tree.room;
@@ -133,42 +146,49 @@ module _ {s : Bytes} {k : Seen} {c : Cur} {depth : ℕ} (a : AnyAt s k c depth) 
             is = entry-is.0;
             next = entry-is.1;
           };
-          fewer = omega (arith, ap length entry_first.same);
+          fewer = omega (arith, ap length (entry_first a t).same);
           gives = entry_gives;
         }
 
-    entry-class : class_of e ≡ 13
+    entry-class : class_of (Ok e) ≡ 13
     unfolding rank
-    entry-class = class-is s e entry_first.head entry-is.0 ∙ met-rank entry_first.met
+    entry-class = class-is s e (entry_first a t).head entry-is.0 ∙ met-rank (entry_first a t).met
 
   -- ## By the class of the line entered
 
-  pub via : class_of e ≡ 13 → Via s k c depth a e d
+  pub via : class_of (Ok e) ≡ 13 → Via s k c depth a e d
   via q = go (rule a.tree.head) refl
     where
       go : (r : Rule) → rule a.tree.head ≡ r → Via s k c depth a e d
       go silent t =
-          let p = silent-place a.tree.head t in
-          absurd (p.0 (sym (class-is s k a.tree.head a.is) ∙ ap class_of (sym (itself p.1).0) ∙ q))
+          absurd (silent-place a.tree.head t (sym (class-is s k a.tree.head a.is) ∙ ap (λ (x : Seen). class_of (Ok x)) (sym (itself (silent-no t)).0) ∙ q))
       go entering t = via-entry t
       go (Rule.typed x) t = via-itself x t
 
-  not-via : (class_of e ≡ 13 → ⊥) → rule a.tree.head ≡ silent
+  not-via : (class_of (Ok e) ≡ 13 → ⊥) → rule a.tree.head ≡ silent
   not-via n = go (rule a.tree.head) refl
     where
       go : (r : Rule) → rule a.tree.head ≡ r → rule a.tree.head ≡ silent
       go silent t = t
       go entering t = absurd (n (entry-class t))
       go (Rule.typed x) t =
-          let p = typed-place a.tree.head x t in
-          absurd (n (ap class_of (itself p.1).0 ∙ class-is s k a.tree.head a.is ∙ p.0))
+          absurd (n (ap (λ (y : Seen). class_of (Ok y)) (itself (typed-no x t)).0 ∙ class-is s k a.tree.head a.is ∙ typed-place a.tree.head x t))
+
+-- a line stands inside the sheet
+pub fine-inside : {s : Bytes} {at : ℕ} → FineAt s at → at ≤ length s
+fine-inside f = omega (arith, f.line.on, f.line.inside)
 
 -- what `entered` requires
-pub enters : {s : Bytes} {k : Seen} {c : Cur} {depth : ℕ} → AnyAt s k c depth → (c.line.0 < 4294967295) × (k.next ≤ length s)
-enters a = (omega (arith, a.tree.above, a.tree.line.on, a.tree.line.inside, a.tree.room), omega (arith, a.next, a.tree.line.inside))
+pub enters : {s : Bytes} {k : Seen} {c : Cur} {depth : ℕ} → AnyAt s k c depth → (c.line.0 < 4294967295) × ((row (word_of k.word)).rule ≡ entering → FineAt s k.next)
+enters {s} {k} a = (
+  omega (arith, a.tree.above, a.tree.line.on, a.tree.line.inside, a.tree.room),
+  λ e.
+      let t = sym (rule-of-word a.is) ∙ e in
+      subst (FineAt s) (sym a.next) (record { head = (entry_first a t).head; next = (entry-line a t).next; line = (entry-line a t).line }),
+)
 
 -- the expression's requirements and its answer
-module _ {s : Bytes} {b : Binds} {k : Seen} {c : Cur} {depth : ℕ} {work : Bytes} {y : Tally} (x : AnyAsk s b k c depth work y) {e : Seen} {d : Cur} (E : EntersAs s k c e d) (q : class_of e ≡ 13) where
+module _ {s : Bytes} {b : Binds} {k : Seen} {c : Cur} {depth : ℕ} {work : Bytes} {y : Tally} (x : AnyAsk s b k c depth work y) {e : Seen} {d : Cur} (E : EntersAs s k c e d) (q : class_of (Ok e) ≡ 13) where
   pub via-ask : ExprAsk s b e d depth work y
   via-ask =
       let v = via x.at E q in
@@ -180,17 +200,17 @@ module _ {s : Bytes} {b : Binds} {k : Seen} {c : Cur} {depth : ℕ} {work : Byte
         count = record { fill = omega (arith, x.count.fill, v.fewer); faults = omega (arith, x.count.faults, v.fewer) };
       }
 
-pub via-walked : {s : Bytes} {b : Binds} {k : Seen} {c : Cur} {depth : ℕ} {work work' out out' : Bytes} {y : Tally} {r : Walk} {e : Seen} {d : Cur} → EntersAs s k c e d → class_of e ≡ 13
+pub via-walked : {s : Bytes} {b : Binds} {k : Seen} {c : Cur} {depth : ℕ} {work work' out out' : Bytes} {y : Tally} {r : Result Walk TooLarge} {e : Seen} {d : Cur} → EntersAs s k c e d → class_of (Ok e) ≡ 13
     → ExprWalked s b e d depth work work' out out' y r → AnyWalked s b k c depth work work' out out' y r
 via-walked {s} {b} {k} {c} {depth} {work} {work'} {out} {out'} {y} {r} E q W a env u = let v = via a E q in v.gives env work work' out out' y r (W v.expr env u)
 
 -- the requirements and the answer of a tree that is neither an expression nor an entry
-module _ {s : Bytes} {k : Seen} {c : Cur} {depth : ℕ} {e : Seen} {d : Cur} (E : EntersAs s k c e d) (n : class_of e ≡ 13 → ⊥) where
+module _ {s : Bytes} {k : Seen} {c : Cur} {depth : ℕ} {e : Seen} {d : Cur} (E : EntersAs s k c e d) (n : class_of (Ok e) ≡ 13 → ⊥) where
   abbrev neither_at : AnyAt s k c depth → PatternAt s c depth
   neither_at a = record { place = a.place; inside = a.inside; tree = a.tree; passes = not-via a E n }
 
   pub neither-ask : {b : Binds} {work : Bytes} {y : Tally} → AnyAsk s b k c depth work y → PatternAsk s b c depth work y
   neither-ask x = record { at = neither_at x.at; env = x.env; bound = x.bound; room = x.room; count = x.count }
 
-  pub neither-walked : {b : Binds} {work work' out out' : Bytes} {y : Tally} {r : Walk} → PatternWalked s b c depth work work' out out' y r → AnyWalked s b k c depth work work' out out' y r
+  pub neither-walked : {b : Binds} {work work' out out' : Bytes} {y : Tally} {r : Result Walk TooLarge} → PatternWalked s b c depth work work' out out' y r → AnyWalked s b k c depth work work' out out' y r
   neither-walked W a env u = W (neither_at a) env u

@@ -7,17 +7,21 @@ use native.Mathlib.Omega.{arith}
 use native.Mathlib.Numerals.{add-one}
 use lib.ListN.{length, take, drop, length-append, length-drop, drop_of_length-le}
 use lib.Seq.{length-take-le}
-use Rattle.semantics.specs.Bytes.{Bytes, hex, split}
+use Rattle.std.specs.Option.{ok_or}
+use Rattle.semantics.specs.Bytes.{Bytes, hex}
 use Rattle.semantics.specs.Sheet.{Head, Role, Typing, rule, roles, arity, wanted}
 use Rattle.semantics.specs.Walk.{Env, Fault, walk}
 use Rattle.semantics.proofs.All.{empty}
-use Rattle.line.specs.Line.{ReadAs}
+use Rattle.line.specs.Known.{KnownAs}
 use Rattle.line.specs.Known.{FineAt}
 use Rattle.line.specs.declared.line.Head.{Head as Seen}
 use Rattle.line.specs.declared.line.HirId.{HirId}
 use Rattle.exprs.specs.End.{EndedAs, Countable}
-use Rattle.exprs.specs.declared.state.Ended.{Ended}
-use Rattle.exprs.specs.declared.state.Ended.TheVariants.{Typed, Large as Ended-as-Large}
+use Rattle.exprs.specs.declared.state.Typed.{Typed}
+use Rattle.exprs.specs.declared.rule.Rule.{Rule}
+use Rattle.exprs.specs.declared.role.Role.{Role as CodeRole}
+use Rattle.std.specs.declared.option.Option.{Option as Optional}
+use Rattle.std.specs.declared.option.Option.TheVariants.{Some, None}
 use Rattle.hir.specs.Check.{KidsAs}
 use Rattle.hir.specs.declared.valid.Kids.{Kids as Hung}
 use Rattle.text.proofs.Laws.{back}
@@ -28,24 +32,40 @@ use Rattle.ty.specs.Parts.{TypeAt}
 use Rattle.report.proofs.ReportLaws.{adds_then}
 use Rattle.report.specs.Report.{Adds}
 use Rattle.report.specs.declared.Tally.{Tally}
-use Rattle.walk_run.specs.Run.{Kept, empty, over, kept, both, items, last, entries, arms, start, child, end, Told, told, too_much, passed, after, kids, Ran, halted, typed, concluded, judged}
+use Rattle.walk_run.specs.Run.{Kept, empty, over, kept, both, items, last, entries, arms, start, child, end, Told, told, too_much, passed, after, kids, Ran, halted, concluded, judged}
 use Rattle.exprs.specs.State.{behind as behind_of, StAs, Fine, FineKept}
 use Rattle.exprs.specs.declared.state.Accumulator.{Accumulator}
-use Rattle.exprs.specs.Rules.{typing_no, role_no}
+use Rattle.exprs.specs.Rules.{typing_rule, child_role}
 use Rattle.infer.specs.Steps.{Before, StepAt, SomeStep, SteppedAs, Steps, SteppedBy, EnvAs, EndAt, SomeEnd, EndedBy, SpeltAs}
 use Rattle.infer.specs.declared.step.Stepped.{Stepped}
-use Rattle.infer.specs.declared.step.Stepped.TheVariants.{On, Large}
 use Rattle.infer.specs.declared.step.Env.{Env as Binds}
-use Rattle.infer.specs.Walks.{result_of, Counting, Behind, WalkedAs, Walked, ToldAs, AnyAsk, AnyWalked}
+use Rattle.infer.specs.Walks.{result_of, Counting, Behind, WalkedAs, Walked, AnyAsk, AnyWalked}
 use Rattle.infer.specs.declared.walk.Cur.{Cur}
 use Rattle.infer.specs.declared.walk.Walk.{Walk}
-use Rattle.infer.specs.declared.walk.Walk.TheVariants.{Done, TooLarge}
+use Rattle.infer.specs.declared.walk.TooLarge.{TooLarge}
+use Rattle.std.specs.Prelude.{Result, Ok, Err}
 use Rattle.infer.proofs.WalkTable.{typing_of, KidsOf, kids-at}
 use Rattle.infer.proofs.WalkTrees.{no-wants, tree-ends}
 use Rattle.infer.proofs.WalkKept.{form-before, form-whole, weak, before-weak, fine-weak, child-weak, leaves}
-use Rattle.infer.proofs.WalkSmall.{adds-long, type-behind, child-room, low-weak, end-room, spelt-name, asks-kids, kids-arity}
+use Rattle.infer.proofs.WalkSmall.{adds-long, type-behind, child-room, low-weak, end-room, spelt-name, asks-kids, kids-arity, kids-small}
 use Rattle.infer.proofs.WalkLoop.{Base, expr-in, base-pos, base-typed, base-passed, Loop}
 use Rattle.infer.proofs.WalkTurn.{DoneAs, walked-done, walked-large, role_at, loop-len, turn-first, turn-line, turn-read, turn_any, turn-ask, turn_res, turn-halted, turn-large, turn-fine, turn_level, turn-name, turn_on, turn-countable}
+
+-- ## What an expression comes to
+
+-- its type at the end; or, where that is too large, its line
+abbrev pub ended : Optional Typed → HirId → Cur → Result Walk TooLarge
+ended (Some r) here c = Ok (record { len = r.len; cur = c; tally = r.tally })
+ended None here c = Err (record { 0 = here })
+
+-- what `ok_or` makes of what may be too large
+pub ok-some : {A E : Type 0} (o : Optional A) (d : E) (x : A) → ok_or o d ≡ Ok x → o ≡ Some x
+ok-some (Some y) d x e = cc
+ok-some None d x e = cc
+
+pub ok-none : {A E : Type 0} (o : Optional A) (d x : E) → ok_or o d ≡ Err x → (o ≡ None) × (x ≡ d)
+ok-none (Some y) d x e = cc
+ok-none None d x e = (refl, cc)
 
 -- ## The step after a child
 
@@ -56,11 +76,11 @@ pub record SteppedOn (o : Option Kept) (s : Bytes) (A : Tally → Type 0) (st : 
   pub fine : FineKept kept
   pub adds : A y
 
-stepped-on : (o : Option Kept) (s : Bytes) (A : Tally → Type 0) (a : Stepped) (st : Accumulator) (y : Tally) → SteppedAs o s A a → a ≡ On st y → SteppedOn o s A st y
+stepped-on : (o : Option Kept) (s : Bytes) (A : Tally → Type 0) (a : Optional Stepped) (st : Accumulator) (y : Tally) → SteppedAs o s A a → a ≡ Some (record { st = st; tally = y }) → SteppedOn o s A st y
 stepped-on none s A a st y x e = absurd (subst (SteppedAs none s A) e x)
 stepped-on (some k) s A a st y x e = let z = subst (SteppedAs (some k) s A) e x in record { kept = k; same = refl; state = z.0; fine = z.1; adds = z.2 }
 
-stepped-large : (o : Option Kept) (s : Bytes) (A : Tally → Type 0) (a : Stepped) → SteppedAs o s A a → a ≡ Large → o ≡ none
+stepped-large : (o : Option Kept) (s : Bytes) (A : Tally → Type 0) (a : Optional Stepped) → SteppedAs o s A a → a ≡ None → o ≡ none
 stepped-large none s A a x e = refl
 stepped-large (some k) s A a x e = absurd (subst (SteppedAs (some k) s A) e x)
 
@@ -111,13 +131,13 @@ module _ {s : Bytes} {b : Binds} {h : Seen} {here depth : ℕ} {hd : Head} {hs k
       less = omega (arith, all-arity, more)
 
       pub role-asks : (h.count < 65536) × (h.flag < 4) × (j < 1048576)
-      role-asks = let a = asks-kids s h hd B.is in (omega (arith, a.1), omega (arith, a.2), omega (arith, hung.small, more))
+      role-asks = let a = asks-kids s h hd B.is in (omega (arith, a.0), omega (arith, a.1), omega (arith, kids-small s h hd kk B.is hung, more))
 
       -- its line is one of the tree's
       pub child-known : FineAt s c.at
       child-known = record { head = (turn-first B L less).head; next = (turn-line B L less).next; line = (turn-line B L less).line }
 
-      module _ (k : Seen) (read : ReadAs s c.at k (split 10 (drop c.at s))) where
+      module _ (k : Seen) (read : KnownAs s c.at k) where
         pub child-ask : Counting y₀ (suc (length hs)) → AnyAsk s b k c (depth - 1) (Lent work st.len) y
         child-ask n = turn-ask B L less b k read u (Lent work st.len) (omega (arith, part-long work st.len, len-inside, room)) n
 
@@ -127,13 +147,13 @@ module _ {s : Bytes} {b : Binds} {h : Seen} {here depth : ℕ} {hd : Head} {hs k
         pub stop-inside : k.stop ≤ length s
         stop-inside = (turn-read B L less k read).0.within
 
-        module _ {ys out' : Bytes} {a : Walk} (W : AnyWalked s b k c (depth - 1) (Lent work st.len) ys out out' y a) where
+        module _ {ys out' : Bytes} {a : Result Walk TooLarge} (W : AnyWalked s b k c (depth - 1) (Lent work st.len) ys out out' y a) where
           child-walked : Walked env s c.line.0 (turn-first B L less).head (turn-first B L less).under (turn-first B L less).behind (Lent work st.len) ys out out' y a
           child-walked = W (turn_any B L less k read) env u
 
           -- it was too large
-          pub child-large : (m : HirId) → a ≡ TooLarge m → judged (result_of env here hd hs) ≡ halted m.0
-          child-large m e = turn-halted B L less m.0 (walked-large (turn_res B L less) ys out out' y _ a m child-walked.answer e)
+          pub child-large : (m : TooLarge) → a ≡ Err m → judged (result_of env here hd hs) ≡ halted m.0.0
+          child-large m e = turn-halted B L less m.0.0 (walked-large (turn_res B L less) ys out out' y _ a m child-walked.answer e)
 
           back_is : Back work st.len ys ≡ take st.len work ++ ys
           back_is = back work ys st.len len-inside child-walked.long
@@ -144,7 +164,7 @@ module _ {s : Bytes} {b : Binds} {h : Seen} {here depth : ℕ} {hd : Head} {hs k
           pub child-long : (length (Back work st.len ys) ≡ length work) × (length out' ≡ length out₀)
           child-long = (back_long, child-walked.as_long ∙ adds-long L.adds)
 
-          module _ {len : ℕ} {c' : Cur} {z : Tally} (e : a ≡ Done len c' z) where
+          module _ {len : ℕ} {c' : Cur} {z : Tally} (e : a ≡ Ok (record { len = len; cur = c'; tally = z })) where
             child-done : DoneAs (turn_res B L less) ys out out' y (Behind env s c.line.0 (turn-first B L less).head (turn-first B L less).under (turn-first B L less).behind) len c' z
             child-done = walked-done (turn_res B L less) ys out out' y _ a len c' z child-walked.answer e
 
@@ -179,12 +199,12 @@ module _ {s : Bytes} {b : Binds} {h : Seen} {here depth : ℕ} {hd : Head} {hs k
                     spelt = spelt;
                   }
 
-              module _ {rl ro : ℕ} (ruled : rl ≡ typing_no qq) (played : ro ≡ role_no (role_at hd j)) where
+              module _ {rl : Rule} {ro : CodeRole} (ruled : rl ≡ typing_rule qq) (played : ro ≡ child_role (role_at hd j)) where
                 pub some-step : SomeStep rl ro (Back work st.len ys) st' len x
                 some-step =
                     record { typing = qq; role = role_at hd j; kept = weak L.kept; ty = (turn_res B L less).ty; name = (turn-first B L less).head.name; rule_is = ruled; role_is = played; at = step-at }
 
-                module _ {work'' out'' : Bytes} {d : Stepped} (S : SteppedBy rl ro (Back work st.len ys) work'' st' len x out' out'' z d) where
+                module _ {work'' out'' : Bytes} {d : Optional Stepped} (S : SteppedBy rl ro (Back work st.len ys) work'' st' len x out' out'' z d) where
                   steps : Steps (child qq (role_at hd j) (weak L.kept) (turn-first B L less).head.name (turn_res B L less).ty) (role_at hd j) (turn_res B L less).ty (Back work st.len ys) work'' out' out'' z d
                   steps = S qq (role_at hd j) (weak L.kept) (turn_res B L less).ty (turn-first B L less).head.name ruled played step-at
 
@@ -197,10 +217,10 @@ module _ {s : Bytes} {b : Binds} {h : Seen} {here depth : ℕ} {hd : Head} {hs k
                   pub step-out : length out'' ≡ length out₀
                   step-out = steps.as_long ∙ adds-long child-done.adds ∙ adds-long L.adds
 
-                  pub step-large : d ≡ Large → judged (result_of env here hd hs) ≡ halted here
+                  pub step-large : d ≡ None → judged (result_of env here hd hs) ≡ halted here
                   step-large f = turn-large B L less child-done.none (sym step_same ∙ stepped-large _ work'' _ d steps.answer f)
 
-                  pub step-on : {st'' : Accumulator} {y'' : Tally} → d ≡ On st'' y'' → Loop s depth here hd hs ks env out₀ y₀ work'' out'' c' y'' st'' (j + 1)
+                  pub step-on : {st'' : Accumulator} {y'' : Tally} → d ≡ Some (record { st = st''; tally = y'' }) → Loop s depth here hd hs ks env out₀ y₀ work'' out'' c' y'' st'' (j + 1)
                   step-on {st''} {y''} f =
                       let o = stepped-on _ work'' _ d st'' y'' steps.answer f in
                       subst (λ (n : ℕ). Loop s depth here hd hs ks env out₀ y₀ work'' out'' c' y'' st'' n) (sym (add-one j))
@@ -256,27 +276,26 @@ module _ {s : Bytes} {b : Binds} {h : Seen} {here depth : ℕ} {hd : Head} {hs k
             walked = tree-ends (expr-in depth) B.met env here c.line.0 n;
           }
 
-      pub end-walked : {work_e work' out' : Bytes} {e : Ended} {r : Walk} (i : HirId) → i.0 ≡ here → EndedBy s b h work work' st out out' y e → ToldAs e i c r → length work ≡ length work_e
-          → Walked env s here hd hs ks work_e work' out₀ out' y₀ r
-      end-walked {work_e} {work'} {out'} {e} {r} i same E t l =
+      pub end-walked : {work_e work' out' : Bytes} {e : Optional Typed} (i : HirId) → i.0 ≡ here → EndedBy s b h work work' st out out' y e → length work ≡ length work_e
+          → Walked env s here hd hs ks work_e work' out₀ out' y₀ (ended e i c)
+      end-walked {work_e} {work'} {out'} {e} i same E l =
           let x = E qq L.kept hd env end-at u in
           record {
-            answer = subst (λ (v : Ran). WalkedAs v work' out₀ out' y₀ (Behind env s here hd hs ks) r) (sym (base-passed B env L.kept (L.faults ++ []) end-passed))
-                (go (end qq env hd L.kept) e x.answer t);
+            answer = subst (λ (v : Ran). WalkedAs v work' out₀ out' y₀ (Behind env s here hd hs ks) (ended e i c)) (sym (base-passed B env L.kept (L.faults ++ []) end-passed))
+                (go (end qq env hd L.kept) e x.answer);
             long = x.long ∙ l;
             as_long = x.as_long ∙ adds-long L.adds;
           }
         where
-          go : (v : Told) (e : Ended) → EndedAs v work' out out' y e → ToldAs e i c r → WalkedAs (concluded here v (L.faults ++ [])) work' out₀ out' y₀ (Behind env s here hd hs ks) r
-          go (told t gs) (Typed len m) a f =
-              subst (WalkedAs (typed t ((L.faults ++ []) ++ gs)) work' out₀ out' y₀ (Behind env s here hd hs ks)) (sym f)
-              (a.0, subst (λ (x : List Fault). Adds (x ++ gs) out₀ out' y₀ m) (sym (append-nil L.faults)) (adds_then L.adds a.1), end-behind)
-          go (told t gs) Ended-as-Large a f = absurd a
-          go too_much (Typed len m) a f = absurd a
-          go too_much Ended-as-Large a f = subst (WalkedAs (halted here) work' out₀ out' y₀ (Behind env s here hd hs ks)) (sym f) same
+          go : (v : Told) (e : Optional Typed) → EndedAs v work' out out' y e → WalkedAs (concluded here v (L.faults ++ [])) work' out₀ out' y₀ (Behind env s here hd hs ks) (ended e i c)
+          go (told t gs) (Some r) a =
+              (a.0, subst (λ (x : List Fault). Adds (x ++ gs) out₀ out' y₀ r.tally) (sym (append-nil L.faults)) (adds_then L.adds a.1), end-behind)
+          go (told t gs) None a = absurd a
+          go too_much (Some r) a = absurd a
+          go too_much None a = same
 
 -- the answer of a line that is stopped
-pub stopped-walked : {env : Env} {s : Bytes} {n : ℕ} {h : Head} {hs ks : List Head} {work work' out out' : Bytes} {y : Tally} (m : HirId) → judged (result_of env n h hs) ≡ halted m.0
-    → length work' ≡ length work → length out' ≡ length out → Walked env s n h hs ks work work' out out' y (TooLarge m)
+pub stopped-walked : {env : Env} {s : Bytes} {n : ℕ} {h : Head} {hs ks : List Head} {work work' out out' : Bytes} {y : Tally} (m : TooLarge) → judged (result_of env n h hs) ≡ halted m.0.0
+    → length work' ≡ length work → length out' ≡ length out → Walked env s n h hs ks work work' out out' y (Err m)
 stopped-walked {env} {s} {n} {h} {hs} {ks} {work} {work'} {out} {out'} {y} m e l o =
-    record { answer = subst (λ (v : Ran). WalkedAs v work' out out' y (Behind env s n h hs ks) (TooLarge m)) (sym e) refl; long = l; as_long = o }
+    record { answer = subst (λ (v : Ran). WalkedAs v work' out out' y (Behind env s n h hs ks) (Err m)) (sym e) refl; long = l; as_long = o }

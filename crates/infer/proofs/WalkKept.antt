@@ -619,8 +619,8 @@ unfolding text_of place behind full
 leaves q k s ys st st' b a l h = go (how q k b)
   where
     plainly : (i : Kept) → k ≡ i → Usual i → StAs i s st → StAs (weak i) (take st.len s ++ ys) st'
-    plainly empty e u a = record { len = omega (arith, a.len, h.0); second = omega (arith, h.1); over = omega (arith, a.over, h.2); front = refl }
-    plainly over e u a = record { len = omega (arith, a.len, h.0); second = omega (arith, h.1); over = omega (arith, a.over, h.2); front = refl }
+    plainly empty e u a = record { len = omega (arith, a.len, h.0); second = omega (arith, h.1); over = h.2 ∙ a.over; front = refl }
+    plainly over e u a = record { len = omega (arith, a.len, h.0); second = omega (arith, h.1); over = h.2 ∙ a.over; front = refl }
     plainly (kept t) e u a = record { len = h.0 ∙ a.len; second = h.1; over = h.2 ∙ a.over; front = front-stays (line t) s ys st.len a.len l a.front }
     plainly (both v t) e u a = absurd u
     plainly (items o) e u a = record { len = h.0 ∙ a.len; second = h.1; over = h.2 ∙ a.over; front = front-stays (list_text o) s ys st.len a.len l a.front }

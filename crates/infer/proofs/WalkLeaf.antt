@@ -1,92 +1,99 @@
 -- `infer_leaf`: nothing can stand below the line, so nothing is kept, and its type is that of a variable or of its word. Assumes nothing.
 use mathlib.Core.Path.{◌≡◌, refl, sym, ◌∙◌, ap, subst}
 use mathlib.Core.List.{List, [], ◌∷◌, ◌++◌, append-nil, map}
-use mathlib.Core.Bool.{true, not, ◌&&◌}
+use mathlib.Core.Bool.{Bool, true, false, not, ◌&&◌}
 use Prim.Native.Nat.{ℕ, ◌+◌, ◌-◌, ◌*◌, ◌≤◌, ◌<◌}
 use native.Mathlib.Omega.{arith}
-use lib.Dec.{eqb, ltb}
-use lib.ListN.{length, get_or}
-use borrow.Author.Tests.{eq-eqb, ne_eqb, lt-ltb}
+use lib.Dec.{eqb}
+use lib.ListN.{length}
+use borrow.Author.Tests.{eq-eqb}
 use Rattle.semantics.specs.Bytes.{Bytes}
-use Rattle.semantics.specs.Sheet.{Word, Head, expression_place, Role, Rule, row, rank, place, rule, roles, arity, Want, at, wanted, deeper, fits, beyond, under}
+use Rattle.semantics.specs.Sheet.{Word, var_word, Shape, nothing, Head, expression_place, Role, Rule, silent, entering, typed, row, rank, place, rule, roles, arity, Want, at, wanted, deeper, fits, beyond, under}
 use Rattle.semantics.specs.Walk.{Env, kind_type}
 use Rattle.semantics.proofs.Words.{every-where}
-use Rattle.line.specs.Arrays.{groups, seconds, group_of, second_of}
-use Rattle.line.specs.Rows.{word_no, numbered}
+use Rattle.line.specs.Words.{word_of}
+use Rattle.line.specs.declared.words.Word.TheVariants.{Var}
+use Rattle.line.specs.declared.places.Place.TheVariants.{Expression}
 use Rattle.line.specs.declared.line.Head.{Head as Seen}
 use Rattle.hir.specs.Bind.{BindsAt}
 use Rattle.hir.specs.Bind.{kind_of as bind_kind}
 use Rattle.hir.specs.Check.{KidsAs}
 use Rattle.hir.specs.Lines.{Met, meets}
 use Rattle.hir.specs.declared.valid.Kids.{Kids}
-use Rattle.hir.proofs.CheckLaws.{no_size}
 use Rattle.hir.proofs.LinesLaws.{inner-under}
 use Rattle.ty.specs.Parts.{TypeAt}
 use Rattle.report.specs.declared.Tally.{Tally}
 use Rattle.walk_run.specs.Run.{Kept, empty, start}
 use Rattle.exprs.specs.State.{StAs, FineKept}
 use Rattle.exprs.specs.declared.state.Accumulator.{Accumulator}
-use Rattle.exprs.specs.declared.state.Ended.TheVariants.{Typed}
-use Rattle.exprs.specs.Rules.{typing_no, rule_no, ConstantBy}
+use Rattle.std.specs.declared.option.Option.TheVariants.{Some}
+use Rattle.exprs.specs.declared.rule.Rule.TheVariants.{Constant, Variable}
+use Rattle.exprs.specs.Rules.{typing_rule, line_rule, ConstantBy}
 use Rattle.exprs.proofs.StateLaws.{empty-is}
-use Rattle.exprs.proofs.RoleLaws.{in_order, word-is}
 use Rattle.infer.specs.Steps.{EndedBy}
 use Rattle.infer.specs.declared.step.Env.{Env as Binds}
-use Rattle.infer.specs.Walks.{ExprWalked, Leaf, LeafAsk, LeafWalked}
+use Rattle.infer.specs.Walks.{Leaf, LeafAsk, LeafWalked}
 use Rattle.infer.specs.declared.walk.Cur.{Cur}
-use Rattle.infer.specs.declared.walk.Walk.{Walk}
-use Rattle.infer.specs.declared.walk.Walk.TheVariants.{Done}
 use Rattle.infer.proofs.WalkTable.{typing_of}
 use Rattle.infer.proofs.WalkTrees.{met-fits}
 use Rattle.infer.proofs.WalkSmall.{kids-arity}
 use Rattle.infer.proofs.WalkLoop.{Base, expr-base, expr-in, base-pos, base-rank, base-under, Loop, loop-start}
-use Rattle.infer.proofs.EndLaws.{Ruled, typing-small, settled, quiet-constant, quiet-variable}
+use Rattle.infer.proofs.EndLaws.{Ruled, settled, quiet-constant, quiet-variable}
 use Rattle.infer.proofs.WalkInfer.{end-walked}
 use Rattle.infer.proofs.WalkCycle.{Past, infer-past}
 
 -- ## A word below whose line nothing can stand
 
+abbrev is_nothing : Shape → Bool
+is_nothing nothing = true
+is_nothing _ = false
+
+abbrev pub is_var : Word → Bool
+is_var var_word = true
+is_var _ = false
+
 -- an expression of such a word keeps nothing
-leaf-word : (v : Word) → rank (row v).place ≡ 13 → Leaf (word_no v) → start (typing_of (row v).rule) ≡ empty
-unfolding row rank word_no numbered groups group_of seconds second_of typing_of start
+leaf-word : (v : Word) → rank (row v).place ≡ 13 → (row v).under ≡ nothing → start (typing_of (row v).rule) ≡ empty
+unfolding row rank typing_of start
 leaf-word v e l =
-    every-where (λ (v : Word). eqb (rank (row v).place) 13 && (eqb (get_or groups (word_no v) 0) 0 && eqb (get_or seconds (word_no v) 0) 0)) (λ (v : Word). start (typing_of (row v).rule)) empty refl v
-    (rw (eq-eqb (rank (row v).place) 13 e, eq-eqb (get_or groups (word_no v) 0) 0 l.0, eq-eqb (get_or seconds (word_no v) 0) 0 l.1))
+    every-where (λ (v : Word). eqb (rank (row v).place) 13 && is_nothing (row v).under) (λ (v : Word). start (typing_of (row v).rule)) empty refl v
+    (rw (eq-eqb (rank (row v).place) 13 e, l))
 
 -- it is a variable, or a constant
-var-number : (v : Word) → word_no v ≡ 31 → rule_no (row v).rule ≡ 1
-unfolding in_order numbered row rule_no typing_no
-var-number v e = rw (word-is v 31 e)
+var-rule : (v : Word) → v ≡ var_word → line_rule (row v).rule ≡ Variable
+unfolding row line_rule typing_rule
+var-rule v e = rw e
 
-constant_number : (v : Word) → ltb (rule_no (row v).rule) 12 ≡ true → Leaf (word_no v) → (word_no v ≡ 31 → ⊥) → rule_no (row v).rule ≡ 0
-unfolding row rank word_no numbered groups group_of seconds second_of rule_no typing_no
-constant_number v e l n =
-    every-where (λ (v : Word). ltb (rule_no (row v).rule) 12 && (eqb (get_or groups (word_no v) 0) 0 && (eqb (get_or seconds (word_no v) 0) 0 && not (eqb (word_no v) 31)))) (λ (v : Word). rule_no (row v).rule) 0 refl v
-    (rw (e, eq-eqb (get_or groups (word_no v) 0) 0 l.0, eq-eqb (get_or seconds (word_no v) 0) 0 l.1, ne_eqb (word_no v) 31 n))
+abbrev is_typed : Rule → Bool
+is_typed silent = false
+is_typed entering = false
+is_typed (typed q) = true
 
-is-variable : {sheet : Bytes} {h : Seen} {s : Bytes} {st : Accumulator} → h.word ≡ 31 → Ruled 1 sheet h s st
-unfolding rule_no
-is-variable e q k hd d = sym (var-number hd.word (sym d.head.word ∙ e)) ∙ ap rule_no d.ruled
+constant_rule : (v : Word) → is_typed (row v).rule ≡ true → (row v).under ≡ nothing → is_var v ≡ false → line_rule (row v).rule ≡ Constant
+unfolding row line_rule typing_rule
+constant_rule v e l n =
+    every-where (λ (v : Word). is_typed (row v).rule && (is_nothing (row v).under && not (is_var v))) (λ (v : Word). line_rule (row v).rule) Constant refl v
+    (rw (e, l, n))
 
-is-constant : {sheet : Bytes} {h : Seen} {s : Bytes} {st : Accumulator} → Leaf h.word → (h.word ≡ 31 → ⊥) → Ruled 0 sheet h s st
-unfolding rule_no
+is-variable : {sheet : Bytes} {h : Seen} {s : Bytes} {st : Accumulator} → h.word ≡ Var → Ruled Variable sheet h s st
+unfolding line_rule
+is-variable e q k hd d = sym (var-rule hd.word (sym d.head.word ∙ ap word_of e)) ∙ ap line_rule d.ruled
+
+-- of the line's word
+under-is : {v w : Word} → v ≡ w → (row v).under ≡ nothing → (row w).under ≡ nothing
+under-is e l = ap (λ (u : Word). (row u).under) (sym e) ∙ l
+
+is-constant : {sheet : Bytes} {h : Seen} {s : Bytes} {st : Accumulator} → Leaf h.word → is_var (word_of h.word) ≡ false → Ruled Constant sheet h s st
+unfolding line_rule
 is-constant l n q k hd d =
-    let t : ltb (rule_no (row hd.word).rule) 12 ≡ true = ap (λ (r : Rule). ltb (rule_no r) 12) d.ruled ∙ lt-ltb (typing_no q) 12 (typing-small q) in
-    sym (constant_number hd.word t (subst Leaf d.head.word l) (λ z. n (d.head.word ∙ z))) ∙ ap rule_no d.ruled
+    sym (constant_rule hd.word (ap is_typed d.ruled) (under-is d.head.word l) (ap is_var (sym d.head.word) ∙ n)) ∙ ap line_rule d.ruled
 
 -- what hangs under it
 abbrev no_kids : Kids
-no_kids = record { first = 0; all = 0; class1 = 0; class2 = 0 }
+no_kids = record { first = 0; all = 0; place1 = Expression; place2 = Expression }
 
 leaf_kids : (h : Seen) → Leaf h.word → KidsAs h no_kids
-leaf_kids h l =
-    record {
-      first = rw (l.0, no_size h.count h.flag);
-      all = rw (l.1, no_size h.count h.flag);
-      class1 = omega (arith, l.0);
-      class2 = omega (arith, l.1);
-      small = omega arith;
-    }
+leaf_kids h l = rw l (record { first = refl; all = refl; place1 = refl; place2 = refl })
 
 no-roles : (ps : List Role) → length ps ≡ 0 → ps ≡ []
 no-roles [] e = refl
@@ -100,7 +107,7 @@ module _ {s : Bytes} {h : Seen} {here depth : ℕ} {hd : Head} {hs ks : List Hea
   leaf-roles = no-roles (roles hd) (sym (kids-arity s h hd no_kids B.is (leaf_kids h l)))
 
   leaf-start : start (typing_of (rule hd)) ≡ empty
-  leaf-start = leaf-word hd.word (base-rank B) (subst Leaf B.is.word l)
+  leaf-start = leaf-word hd.word (base-rank B) (under-is B.is.word l)
 
   -- one level is enough
   leaf-met : Met (at expression_place 1 ∷ []) (hd ∷ hs) ks
@@ -120,7 +127,7 @@ module _ {s : Bytes} {h : Seen} {here depth : ℕ} {hd : Head} {hs ks : List Hea
 -- ## `infer_leaf`
 
 abbrev none_kept : Accumulator
-none_kept = record { len = 0; second = 0; over = 0 }
+none_kept = record { len = 0; second = 0; over = false }
 
 module _ {s : Bytes} {b : Binds} {h : Seen} {cur : Cur} {work : Bytes} {y : Tally} (x : LeafAsk s b h cur work y) where
   pub leaf-past : cur.line.0 < 4294967295
@@ -136,24 +143,15 @@ module _ {s : Bytes} {b : Binds} {h : Seen} {cur : Cur} {work : Bytes} {y : Tall
   leaf-wide = omega (arith, leaf_room)
 
   module _ {c : Cur} (p : Past c h.next cur.line.0) {work' out : Bytes} {len : ℕ} where
-    leaf-end : EndedBy s b h work work' none_kept out out y (Typed len y) → LeafWalked s b h cur work work' out out y (Done len c y)
+    leaf-end : EndedBy s b h work work' none_kept out out y (Some (record { len = len; tally = y })) → LeafWalked s b h cur work work' out out y (record { len = len; cur = c; tally = y })
     leaf-end E depth ζ env u =
         let B = expr-base ζ in
         let a = empty-is (refl, refl, refl) work in
-        end-walked (leaf-base B x.leaf) u (leaf-loop B x.leaf env out work y c none_kept p a) leaf_room (leaf_kids h x.leaf) (omega arith) cur.line refl E refl refl
+        end-walked (leaf-base B x.leaf) u (leaf-loop B x.leaf env out work y c none_kept p a) leaf_room (leaf_kids h x.leaf) (omega arith) cur.line refl E refl
 
-    pub leaf-variable : h.word ≡ 31 → ((b' : BindsAt s b.from b.to) → TypeAt work' 0 len (kind_type (bind_kind h.var.0 b'.heads))) × (length work' ≡ length work)
-        → LeafWalked s b h cur work work' out out y (Done len c y)
-    leaf-variable e f = leaf-end (settled (is-variable e) (omega arith) (quiet-variable refl f))
+    pub leaf-variable : h.word ≡ Var → ((b' : BindsAt s b.from b.to) → TypeAt work' 0 len (kind_type (bind_kind h.var.0 b'.heads))) × (length work' ≡ length work)
+        → LeafWalked s b h cur work work' out out y (record { len = len; cur = c; tally = y })
+    leaf-variable e f = leaf-end (settled (is-variable e) refl (quiet-variable refl f))
 
-    pub leaf-constant : (h.word ≡ 31 → ⊥) → ConstantBy h.word work work' len → LeafWalked s b h cur work work' out out y (Done len c y)
-    leaf-constant n f = leaf-end (settled (is-constant x.leaf n) (omega arith) (quiet-constant refl f))
-
--- ## An expression of either kind
-
--- where the ways of `infer_leaf` and `infer_expr` join, the answer and both buffers have names of their own
-pub joined : {s : Bytes} {b : Binds} {h : Seen} {c : Cur} {depth : ℕ} {work work' work'' out out' out'' : Bytes} {y : Tally} {r r' : Walk} → work'' ≡ work' → out'' ≡ out' → r' ≡ r
-    → ExprWalked s b h c depth work work' out out' y r → ExprWalked s b h c depth work work'' out out'' y r'
-joined {s} {b} {h} {c} {depth} {work} {work'} {work''} {out} {out'} {out''} {y} {r} {r'} e f g x =
-    subst (λ (w : Bytes). ExprWalked s b h c depth work w out out'' y r') (sym e)
-    (subst (λ (o : Bytes). ExprWalked s b h c depth work work' out o y r') (sym f) (subst (λ (a : Walk). ExprWalked s b h c depth work work' out out' y a) (sym g) x))
+    pub leaf-constant : is_var (word_of h.word) ≡ false → ConstantBy h.word work work' len → LeafWalked s b h cur work work' out out y (record { len = len; cur = c; tally = y })
+    leaf-constant n f = leaf-end (settled (is-constant x.leaf n) refl (quiet-constant refl f))

@@ -6,18 +6,18 @@ use Prim.Native.Nat.{ℕ, suc, ◌+◌, ◌-◌, ◌*◌, ◌≤◌, ◌<◌}
 use native.Mathlib.Omega.{arith}
 use lib.ListN.{length, take, drop, set, length-set, length-map, length-append}
 use lib.Seq.{take-add}
-use Rattle.semantics.specs.Bytes.{Bytes, split}
+use Rattle.semantics.specs.Bytes.{Bytes}
 use Rattle.semantics.specs.Ty.{Ty, base, t_unknown}
 use Rattle.semantics.specs.Sheet.{Head, Place, first_place, binding_place, clause_place, end_place, projection_place, set_item_place, remove_item_place, label_place, parts_place, part_place, element_place, entry_place, item_place, expression_place, Role, silent, rule, roles, arity, rank, place, Want, at, wanted, deeper, under}
 use Rattle.semantics.specs.Walk.{Env, Res, Fault, type_of, step, walk, all_tests}
 use Rattle.semantics.specs.Calls.{first_large}
-use Rattle.line.specs.Line.{HeadIs, ReadAs}
+use Rattle.line.specs.Line.{HeadIs}
+use Rattle.line.specs.Known.{KnownAs}
 use Rattle.line.specs.declared.line.Head.{Head as Seen}
-use Rattle.line.specs.declared.line.HirId.{HirId}
 use Rattle.hir.specs.Check.{KidsAs}
 use Rattle.hir.specs.declared.valid.Kids.{Kids as Hung}
 use Rattle.hir.specs.Lines.{Lines, no_line, a_line, Met, all_met, meets}
-use Rattle.hir.proofs.LinesLaws.{Inner, AllIn, one_in, inner-under, read_at}
+use Rattle.hir.proofs.LinesLaws.{Inner, AllIn, one_in, inner-under}
 use Rattle.report.proofs.ReportLaws.{adds_none, adds_then}
 use Rattle.report.specs.Report.{faults_text, Adds}
 use Rattle.report.specs.declared.Tally.{Tally}
@@ -30,7 +30,8 @@ use Rattle.infer.specs.declared.step.Env.{Env as Binds}
 use Rattle.infer.specs.Walks.{TreeAt, result_of, Counting, Behind, WalkedAs, Walked, ExprAt, ExprAsk, ExprWalked}
 use Rattle.infer.specs.declared.walk.Cur.{Cur}
 use Rattle.infer.specs.declared.walk.Walk.{Walk}
-use Rattle.infer.specs.declared.walk.Walk.TheVariants.{Done, TooLarge}
+use Rattle.infer.specs.declared.walk.TooLarge.{TooLarge}
+use Rattle.std.specs.Prelude.{Result, Ok, Err}
 use Rattle.infer.proofs.WalkTable.{passes_at}
 use Rattle.infer.proofs.WalkTrees.{lines-in, FirstLine, first-line, no-wants, First, first-met, met-rank, kids-many, walk_first, tree-ends, tree-shorter, judged-none, judged-some, faults-append, tests-append, passes_on}
 use Rattle.infer.proofs.WalkSmall.{text-long, adds-long, unknown-front, kids-arity}
@@ -169,8 +170,8 @@ module _ {s : Bytes} {depth here : ℕ} {hd : Head} {hs ks : List Head} {env : E
     pub pat-next : FirstLine s c.at pat-first.head pat-first.under (length s)
     pat-next = first-line (subst (λ (x : List Head). Lines s c.at x (length s)) pat-first.same L.lines)
 
-    pub pat-read : (g : Seen) → ReadAs s c.at g (split 10 (drop c.at s)) → HeadIs s g pat-first.head × (g.next ≡ pat-next.next)
-    pat-read g r = read_at s c.at pat-next.next pat-first.head g pat-next.line r
+    pub pat-read : (g : Seen) → KnownAs s c.at g → HeadIs s g pat-first.head × (g.next ≡ pat-next.next)
+    pat-read g r = let x = r pat-first.head pat-next.next pat-next.line in (x.1, x.0)
 
     pat-rest : length pat-at.rest ≡ todo - 1
     pat-rest = omega (arith, L.many, ap length pat-at.same)
@@ -188,7 +189,7 @@ module _ {s : Bytes} {depth here : ℕ} {hd : Head} {hs ks : List Head} {env : E
         ∙ walk_first env c.line.0 (todo - 1) pat-first.head pat-first.under
 
     -- an expression
-    module _ (g : Seen) (read : ReadAs s c.at g (split 10 (drop c.at s))) where
+    module _ (g : Seen) (read : KnownAs s c.at g) where
       module _ (is : rank (place pat-first.head) ≡ 13) where
         pat-met : Met (at expression_place depth ∷ []) (pat-first.head ∷ pat-first.under) pat-first.behind
         pat-met =
@@ -225,7 +226,7 @@ module _ {s : Bytes} {depth here : ℕ} {hd : Head} {hs ks : List Head} {env : E
               };
             }
 
-        module _ {b : Binds} (u : EnvAs s b env) {work work' out' : Bytes} {a : Walk} (W : ExprWalked s b g c depth work work' out out' y a) where
+        module _ {b : Binds} (u : EnvAs s b env) {work work' out' : Bytes} {a : Result Walk TooLarge} (W : ExprWalked s b g c depth work work' out out' y a) where
           pat-walked : Walked env s c.line.0 pat-first.head pat-first.under pat-first.behind work work' out out' y a
           pat-walked = W pat_expr env u
 
@@ -240,13 +241,13 @@ module _ {s : Bytes} {depth here : ℕ} {hd : Head} {hs ks : List Head} {env : E
           unfolding all_tests
           pat-tests = L.tests ∙ ap (λ (x : List Res). first_large (all_tests x)) pat-results ∙ first-append pat_res.tests _
 
-          pub pat-large : (m : HirId) → a ≡ TooLarge m → judged (result_of env here hd hs) ≡ halted m.0
+          pub pat-large : (m : TooLarge) → a ≡ Err m → judged (result_of env here hd hs) ≡ halted m.0.0
           pat-large m e =
-              judged-some (result_of env here hd hs) m.0
+              judged-some (result_of env here hd hs) m.0.0
               (pat-tests ∙ ap (λ (o : Option ℕ). first o (first_large (all_tests (take (todo - 1) (drop (arity pat-first.head) (walk env (suc c.line.0) pat-first.under))))))
               (walked-large pat_res work' out out' y _ a m pat-walked.answer e))
 
-          module _ {len : ℕ} {c' : Cur} {z : Tally} (e : a ≡ Done len c' z) where
+          module _ {len : ℕ} {c' : Cur} {z : Tally} (e : a ≡ Ok (record { len = len; cur = c'; tally = z })) where
             pat-done : DoneAs pat_res work' out out' y (Behind env s c.line.0 pat-first.head pat-first.under pat-first.behind) len c' z
             pat-done = walked-done pat_res work' out out' y _ a len c' z pat-walked.answer e
 
@@ -352,7 +353,7 @@ module _ {s : Bytes} {depth here : ℕ} {hd : Head} {hs ks : List Head} {env : E
     pat-zero = omega arith
 
     pub pat-end : (work_e work : Bytes) {p : Place} → rule hd ≡ silent → Met (at p depth ∷ []) (hd ∷ hs) ks → 3 < rank p → 2 ≤ length work → length work ≡ length work_e
-        → Walked env s here hd hs ks work_e (set (set work 0 80) 1 44) out₀ out y₀ (Done 2 c y)
+        → Walked env s here hd hs ks work_e (set (set work 0 80) 1 44) out₀ out y₀ (Ok (record { len = 2; cur = c; tally = y }))
     unfolding all_faults all_tests first_large
     pat-end work_e work {p} e m i l w =
         let r = result_of env here hd hs in
@@ -362,7 +363,7 @@ module _ {s : Bytes} {depth here : ℕ} {hd : Head} {hs ks : List Head} {env : E
         let n : c.line.0 + length ks ≡ here + suc (length hs) = omega (arith, L.count, ap length pat-heads) in
         let j : judged r ≡ typed (base t_unknown) L.faults = judged-none r o ∙ ap (λ (x : Ty). typed x r.faults) t ∙ ap (typed (base t_unknown)) f in
         record {
-          answer = subst (λ (v : Ran). WalkedAs v (set (set work 0 80) 1 44) out₀ out y₀ (Behind env s here hd hs ks) (Done 2 c y)) (sym j) (
+          answer = subst (λ (v : Ran). WalkedAs v (set (set work 0 80) 1 44) out₀ out y₀ (Behind env s here hd hs ks) (Ok (record { len = 2; cur = c; tally = y }))) (sym j) (
             unknown-front work l,
             L.adds,
             record {

@@ -3,22 +3,21 @@
 use mathlib.Core.Path.{◌≡◌, refl, sym, ◌∙◌, ap}
 use mathlib.Core.List.{List, [], ◌∷◌, ◌++◌, append_assoc, map}
 use mathlib.Core.Option.{none, some}
-use Prim.Native.Nat.{ℕ, suc, zero, ◌+◌, ◌-◌, ◌*◌, ◌/◌, ◌≤◌, ◌<◌}
+use Prim.Native.Nat.{ℕ, suc, zero, ◌+◌, ◌-◌, ◌*◌, ◌≤◌, ◌<◌}
 use native.Mathlib.Omega.{arith}
-use lib.ListN.{length, get_or, take, drop, set, length-append, length-map, length-replicate, replicate}
+use lib.ListN.{length, take, drop, set, length-append, length-map, length-replicate, replicate}
 use lib.Seq.{slice, take-nil, length-sets, length-take-le, drop_at, take-append-add}
 use Rattle.semantics.specs.Bytes.{Bytes, hex}
 use Rattle.semantics.specs.Ty.{Ty, base, t_unknown, t_list, line, line_to, letter, regular}
-use Rattle.semantics.specs.Sheet.{Head, Typing, constant, var_type, element, slice as slicing, listing, mapping, calling, operator, unary, casing, membership, comprehension, typed, row, rule, roles, arity, at, wanted}
+use Rattle.semantics.specs.Sheet.{Head, Typing, constant, var_type, element, slice as slicing, listing, mapping, calling, operator, unary, casing, membership, comprehension, typed, row, rule, roles, arity, at, wanted, Shape, nothing, one, two, bounds, arms as arms_under, times, times_then, around, one_then, one_times, plain, condition, answer, inner}
 use Rattle.semantics.specs.Walk.{Fault}
 use Rattle.semantics.proofs.Regular.{regular-sound}
 use Rattle.unify_run.proofs.Size.{element-inside, small-sound, small-true}
 use Rattle.unify.specs.Work.{slots}
 use Rattle.line.specs.Line.{HeadIs}
 use Rattle.line.specs.declared.line.Head.{Head as Seen}
-use Rattle.line.proofs.Rows.{word-range}
-use Rattle.hir.specs.Kids.{place_at, group_size, kid_wants}
-use Rattle.line.specs.Arrays.{groups, seconds}
+use Rattle.line.specs.Words.{word_of}
+use Rattle.hir.specs.Kids.{first_size, first_spot, second_size, second_spot, bits, kid_wants}
 use Rattle.hir.specs.Check.{KidsAs}
 use Rattle.hir.specs.declared.valid.Kids.{Kids}
 use Rattle.hir.proofs.PlaceLaws.{kids-of, flag_small, count_small}
@@ -30,7 +29,8 @@ use Rattle.walk_run.specs.Run.{Kept, empty, over, kept, both, items, last, entri
 use Rattle.walk_run.proofs.Levels.{Low}
 use Rattle.exprs.specs.State.{Fine, FineKept}
 use Rattle.bounds.proofs.Rooms.{low-fit}
-use Rattle.exprs.specs.Rules.{typing_no, rule_no}
+use Rattle.exprs.specs.Rules.{typing_rule, line_rule}
+use Rattle.exprs.specs.declared.rule.Rule.{Rule}
 use Rattle.infer.specs.Steps.{RoomIn, ChildRoom, RoomOf, SpeltAs}
 use Rattle.infer.proofs.WalkKept.{LowKept, weak}
 use Rattle.infer.proofs.EndLaws.{name-spelt}
@@ -142,20 +142,43 @@ spelt-name s k h a i x = part_slice a k.stop s x.below ∙ x.same s ∙ name-spe
 
 -- ## A line's numbers
 
-pub asks-kids : (s : Bytes) (k : Seen) (h : Head) → HeadIs s k h → (k.word < 64) × (k.count ≤ 9999) × (k.flag ≤ 3)
-asks-kids s k h i = (omega (arith, i.word, (word-range h.word).1), count_small s k h i, flag_small s k h i)
+pub asks-kids : (s : Bytes) (k : Seen) (h : Head) → HeadIs s k h → (k.count ≤ 9999) × (k.flag ≤ 3)
+asks-kids s k h i = (count_small s k h i, flag_small s k h i)
 
 times_long : {A : Type 0} (n m : ℕ) (a b : A) → length (replicate n a ++ replicate m b) ≡ n + m
 times_long n m a b = omega (arith, length-append (replicate n a) (replicate m b), length-replicate n a, length-replicate m b)
 
-wants-long : (w c f d : ℕ) → length (kid_wants w c f d) ≡ group_size (get_or groups w 0) c f + group_size (get_or seconds w 0) c f
+wants-long : (u : Shape) (c f d : ℕ) → length (kid_wants u c f d) ≡ first_size u c (bits f) + second_size u c (bits f)
 unfolding kid_wants
-wants-long w c f d = times_long (group_size (get_or groups w 0) c f) (group_size (get_or seconds w 0) c f) (at (place_at (get_or groups w 0 / 32)) d) (at (place_at (get_or seconds w 0 / 32)) d)
+wants-long u c f d = times_long (first_size u c (bits f)) (second_size u c (bits f)) (at (first_spot u) d) (at (second_spot u) d)
 
 pub kids-arity : (s : Bytes) (k : Seen) (h : Head) (r : Kids) → HeadIs s k h → KidsAs k r → r.all ≡ arity h
 unfolding arity
-kids-arity s k h r i x = omega (arith, x.all, x.first, ap length (kids-of s k h 0 i), length-map (roles h) (wanted 0), wants-long k.word k.count k.flag 0)
+kids-arity s k h r i x = omega (arith, x.all, x.first, ap length (kids-of s k h 0 i), length-map (roles h) (wanted 0), wants-long (row (word_of k.word)).under k.count k.flag 0)
 
-pub rule-number : (h : Head) (q : Typing) (r : ℕ) → rule h ≡ typed q → r ≡ rule_no (row h.word).rule → r ≡ typing_no q
-unfolding rule_no
-rule-number h q r e d = d ∙ ap rule_no e
+-- no line has more children
+sizes-small : (u : Shape) (c b : ℕ) → c ≤ 9999 → b ≤ 2 → first_size u c b + second_size u c b < 131072
+sizes-small nothing c b l m = omega arith
+sizes-small two c b l m = omega arith
+sizes-small bounds c b l m = omega arith
+sizes-small arms_under c b l m = omega arith
+sizes-small (one p) c b l m = omega arith
+sizes-small (times i p) c b l m = omega arith
+sizes-small (times_then i p j) c b l m = omega arith
+sizes-small (around plain j) c b l m = omega arith
+sizes-small (around condition j) c b l m = omega arith
+sizes-small (around answer j) c b l m = omega arith
+sizes-small (around (inner q) j) c b l m = omega arith
+sizes-small (one_then j) c b l m = omega arith
+sizes-small (one_times i p) c b l m = omega arith
+
+pub kids-small : (s : Bytes) (k : Seen) (h : Head) (r : Kids) → HeadIs s k h → KidsAs k r → r.all < 131072
+kids-small s k h r i x =
+    let a = asks-kids s k h i in
+    let f = k.flag in
+    let b : bits f ≤ 2 = omega (arith, a.1) in
+    omega (arith, x.all, x.first, sizes-small (row (word_of k.word)).under k.count (bits f) a.0 b)
+
+pub rule-number : (h : Head) (q : Typing) (r : Rule) → rule h ≡ typed q → r ≡ line_rule (row h.word).rule → r ≡ typing_rule q
+unfolding line_rule
+rule-number h q r e d = d ∙ ap line_rule e

@@ -7,40 +7,66 @@ use mathlib.Core.List.{List, [], ◌∷◌}
 use Prim.Native.Nat.{ℕ, ◌≤◌}
 use native.Mathlib.Omega.{arith}
 use lib.ListN.{length}
-use Rattle.semantics.specs.Sheet.{kids, Word, Shape, nothing, one, two, bounds, arms, times, times_then, around, one_then, one_times, Head, Role, plain, condition, answer, inner, entry_place, Typing, constant, var_type, element, slice, listing, mapping, calling, operator, unary, casing, membership, comprehension, Rule, silent, entering, typed, row, rank, rule, place, roles, arity}
+use Rattle.semantics.specs.Sheet.{kids, Word, Shape, nothing, one, two, bounds, arms, times, times_then, around, one_then, one_times, Head, Role, plain, condition, answer, inner, Place, first_place, binding_place, clause_place, end_place, projection_place, set_item_place, remove_item_place, label_place, parts_place, part_place, element_place, entry_place, item_place, expression_place, Typing, constant, var_type, element, slice, listing, mapping, calling, operator, unary, casing, membership, comprehension, Rule, silent, entering, typed, row, rank, rule, place, roles, arity}
 use Rattle.semantics.proofs.All.{All}
+use Rattle.line.specs.Words.{place_of}
+use Rattle.line.specs.declared.places.Place.{Place as Spot}
+use Rattle.line.specs.declared.places.Place.TheVariants.{End, Expression}
+use Rattle.hir.proofs.PlaceLaws.{other-rank, spot-by-rank}
 use Rattle.semantics.proofs.Words.{holds, named, each, kids-each}
 use Rattle.walk_run.proofs.Silent.{entry-one}
-use Rattle.line.specs.Rows.{word_no}
-use Rattle.hir.specs.Kids.{place_at}
-use Rattle.hir.proofs.KidLaws.{both, place-rank}
 
 -- ## Rules and places
 
-abbrev ByPlace : Rule → ℕ → ℕ → Type 0
-ByPlace silent r w = (r ≡ 13 → ⊥) × (r ≡ 11 → ⊥) × (w ≡ 40 → ⊥)
-ByPlace entering r w = (r ≡ 11) × (w ≡ 40)
-ByPlace (typed q) r w = (r ≡ 13) × (w ≡ 40 → ⊥)
+both : (a b : Bool) → a && b ≡ true → (a ≡ true) × (b ≡ true)
+both true b e = (refl, e)
+both false b e = cc
 
-abbrev ok_place : Rule → ℕ → ℕ → Bool
-ok_place silent r w = not (eqb r 13) && (not (eqb r 11) && not (eqb w 40))
-ok_place entering r w = eqb r 11 && eqb w 40
-ok_place (typed q) r w = eqb r 13 && not (eqb w 40)
+abbrev ByPlace : Rule → ℕ → Type 0
+ByPlace silent r = (r ≡ 13 → ⊥) × (r ≡ 11 → ⊥)
+ByPlace entering r = r ≡ 11
+ByPlace (typed q) r = r ≡ 13
+
+abbrev ok_place : Rule → ℕ → Bool
+ok_place silent r = not (eqb r 13) && not (eqb r 11)
+ok_place entering r = eqb r 11
+ok_place (typed q) r = eqb r 13
 
 differ : (a b : ℕ) → not (eqb a b) ≡ true → a ≡ b → ⊥
 differ a b e = eqb-false a b (not-true (eqb a b) e)
 
-place-true : (q : Rule) (r w : ℕ) → ok_place q r w ≡ true → ByPlace q r w
-place-true silent r w e =
-    let x = both (not (eqb r 13)) (not (eqb r 11) && not (eqb w 40)) e in
-    let y = both (not (eqb r 11)) (not (eqb w 40)) x.1 in
-    (differ r 13 x.0, differ r 11 y.0, differ w 40 y.1)
-place-true entering r w e = let x = both (eqb r 11) (eqb w 40) e in (eqb-true r 11 x.0, eqb-true w 40 x.1)
-place-true (typed q) r w e = let x = both (eqb r 13) (not (eqb w 40)) e in (eqb-true r 13 x.0, differ w 40 x.1)
+place-true : (q : Rule) (r : ℕ) → ok_place q r ≡ true → ByPlace q r
+place-true silent r e = let x = both (not (eqb r 13)) (not (eqb r 11)) e in (differ r 13 x.0, differ r 11 x.1)
+place-true entering r e = eqb-true r 11 e
+place-true (typed q) r e = eqb-true r 13 e
 
-by_place : (v : Word) → ByPlace (row v).rule (rank (row v).place) (word_no v)
-unfolding row rank word_no
-by_place v = place-true (row v).rule (rank (row v).place) (word_no v) (holds (λ (v : Word). ok_place (row v).rule (rank (row v).place) (word_no v)) refl v)
+by_place : (v : Word) → ByPlace (row v).rule (rank (row v).place)
+unfolding row rank
+by_place v = place-true (row v).rule (rank (row v).place) (holds (λ (v : Word). ok_place (row v).rule (rank (row v).place)) refl v)
+
+-- an entry's rule
+abbrev pub enters_by : Rule → Bool
+enters_by silent = false
+enters_by entering = true
+enters_by (typed q) = false
+
+-- ## Places of expressions and of the end
+
+pub expression-class : {p : Place} → expression_place ≡ p → rank p ≡ 13
+unfolding rank
+expression-class e = rw (← e) refl
+
+pub end-class : {p : Place} → end_place ≡ p → rank p ≡ 3
+unfolding rank
+end-class e = rw (← e) refl
+
+-- any other place
+pub other-class : {r : Spot} {p : Place} → place_of r ≡ p → (r ≡ Expression → ⊥) → rank p ≡ 13 → ⊥
+other-class {r} e n z = other-rank r n (ap rank e ∙ z)
+
+pub not-end : {r : Spot} {p : Place} → place_of r ≡ p → (r ≡ End → ⊥) → rank p ≡ 3 → ⊥
+unfolding rank
+not-end {r} e n z = n (spot-by-rank r End (ap rank e ∙ z))
 
 -- the typing of a rule
 unfoldable pub typing_of : Rule → Typing
@@ -52,34 +78,18 @@ pub typed_at : (h : Head) → rank (place h) ≡ 13 → rule h ≡ typed (typing
 unfolding typing_of
 typed_at h e = go (rule h) (by_place h.word)
   where
-    go : (r : Rule) → ByPlace r (rank (place h)) (word_no h.word) → r ≡ typed (typing_of r)
+    go : (r : Rule) → ByPlace r (rank (place h)) → r ≡ typed (typing_of r)
     go silent b = absurd (b.0 e)
-    go entering b = absurd (omega (arith, b.0))
+    go entering b = absurd (omega (arith, b))
     go (typed q) b = refl
 
 pub entering-at : (h : Head) → rank (place h) ≡ 11 → rule h ≡ entering
 entering-at h e = go (rule h) (by_place h.word)
   where
-    go : (r : Rule) → ByPlace r (rank (place h)) (word_no h.word) → r ≡ entering
+    go : (r : Rule) → ByPlace r (rank (place h)) → r ≡ entering
     go silent b = absurd (b.1 e)
     go entering b = refl
-    go (typed q) b = absurd (omega (arith, b.0))
-
-pub entering-no : (h : Head) → rule h ≡ entering → word_no h.word ≡ 40
-entering-no h e = go (rule h) e (by_place h.word)
-  where
-    go : (r : Rule) → r ≡ entering → ByPlace r (rank (place h)) (word_no h.word) → word_no h.word ≡ 40
-    go silent d b = absurd (let z : ◌≡◌ {A = ℕ} 0 1 = cc in omega arith)
-    go entering d b = b.1
-    go (typed q) d b = absurd (let z : ◌≡◌ {A = ℕ} 0 1 = cc in omega arith)
-
-pub no-entering : (h : Head) → word_no h.word ≡ 40 → rule h ≡ entering
-no-entering h e = go (rule h) (by_place h.word)
-  where
-    go : (r : Rule) → ByPlace r (rank (place h)) (word_no h.word) → r ≡ entering
-    go silent b = absurd (b.2 e)
-    go entering b = refl
-    go (typed q) b = absurd (b.1 e)
+    go (typed q) b = absurd (omega (arith, b))
 
 -- a line that is no expression
 pub data Passes (h : Head) : Type 0 where
@@ -89,18 +99,18 @@ pub data Passes (h : Head) : Type 0 where
 pub passes_at : (h : Head) → (rank (place h) ≡ 13 → ⊥) → Passes h
 passes_at h n = go (rule h) refl (by_place h.word)
   where
-    go : (r : Rule) → rule h ≡ r → ByPlace r (rank (place h)) (word_no h.word) → Passes h
+    go : (r : Rule) → rule h ≡ r → ByPlace r (rank (place h)) → Passes h
     go silent d b = is_silent d
     go entering d b = is_entry d
-    go (typed q) d b = absurd (n b.0)
+    go (typed q) d b = absurd (n b)
 
-pub silent-at : (h : Head) → (rank (place h) ≡ 13 → ⊥) → (word_no h.word ≡ 40 → ⊥) → rule h ≡ silent
-silent-at h n k = go (rule h) (by_place h.word)
+pub silent-at : (h : Head) → (rank (place h) ≡ 13 → ⊥) → (rule h ≡ entering → ⊥) → rule h ≡ silent
+silent-at h n k = go (rule h) refl (by_place h.word)
   where
-    go : (r : Rule) → ByPlace r (rank (place h)) (word_no h.word) → r ≡ silent
-    go silent b = refl
-    go entering b = absurd (k b.1)
-    go (typed q) b = absurd (n b.0)
+    go : (r : Rule) → rule h ≡ r → ByPlace r (rank (place h)) → r ≡ silent
+    go silent d b = refl
+    go entering d b = absurd (k d)
+    go (typed q) d b = absurd (n b)
 
 -- ## Children
 
@@ -170,17 +180,37 @@ two-kids (around p j) e ns = absurd (let z : ◌≡◌ {A = ℕ} 0 1 = cc in ome
 two-kids (one_then j) e ns = absurd (let z : ◌≡◌ {A = ℕ} 0 1 = cc in omega arith)
 two-kids (one_times i p) e ns = absurd (let z : ◌≡◌ {A = ℕ} 0 1 = cc in omega arith)
 
+abbrev at_entry : Place → Bool
+at_entry entry_place = true
+at_entry _ = false
+
+entry-place : (q : Place) → at_entry q ≡ true → q ≡ entry_place
+entry-place first_place e = cc
+entry-place binding_place e = cc
+entry-place clause_place e = cc
+entry-place end_place e = cc
+entry-place projection_place e = cc
+entry-place set_item_place e = cc
+entry-place remove_item_place e = cc
+entry-place label_place e = cc
+entry-place parts_place e = cc
+entry-place part_place e = cc
+entry-place element_place e = cc
+entry-place entry_place e = refl
+entry-place item_place e = cc
+entry-place expression_place e = cc
+
 abbrev entry_role : Role → Bool
 entry_role plain = false
 entry_role condition = false
 entry_role answer = false
-entry_role (inner q) = eqb (rank q) 11
+entry_role (inner q) = at_entry q
 
 entry-role : (p : Role) → entry_role p ≡ true → Entry p
 entry-role plain e = absurd (let z : ◌≡◌ {A = ℕ} 0 1 = cc in omega arith)
 entry-role condition e = absurd (let z : ◌≡◌ {A = ℕ} 0 1 = cc in omega arith)
 entry-role answer e = absurd (let z : ◌≡◌ {A = ℕ} 0 1 = cc in omega arith)
-entry-role (inner q) e = ap inner (sym (place-rank q) ∙ (ap place_at (eqb-true (rank q) 11 e) ∙ (unfold place_at in refl)))
+entry-role (inner q) e = ap inner (entry-place q e)
 
 abbrev ok_kids : Typing → Shape → Bool
 ok_kids (constant t) s = true
@@ -229,26 +259,26 @@ pub entry-arity : (h : Head) → rule h ≡ entering → arity h ≡ 1
 unfolding arity
 entry-arity h e = ap length (entry-roles h e)
 
-pub silent-place : (h : Head) → rule h ≡ silent → (rank (place h) ≡ 13 → ⊥) × (word_no h.word ≡ 40 → ⊥)
+pub silent-place : (h : Head) → rule h ≡ silent → rank (place h) ≡ 13 → ⊥
 silent-place h e = go (rule h) e (by_place h.word)
   where
-    go : (r : Rule) → r ≡ silent → ByPlace r (rank (place h)) (word_no h.word) → (rank (place h) ≡ 13 → ⊥) × (word_no h.word ≡ 40 → ⊥)
-    go silent d b = (b.0, b.2)
-    go entering d b = absurd (let z : ◌≡◌ {A = ℕ} 0 1 = cc in omega arith)
-    go (typed q) d b = absurd (let z : ◌≡◌ {A = ℕ} 0 1 = cc in omega arith)
+    go : (r : Rule) → r ≡ silent → ByPlace r (rank (place h)) → rank (place h) ≡ 13 → ⊥
+    go silent d b = b.0
+    go entering d b = cc
+    go (typed q) d b = cc
 
-pub typed-place : (h : Head) (q : Typing) → rule h ≡ typed q → (rank (place h) ≡ 13) × (word_no h.word ≡ 40 → ⊥)
+pub typed-place : (h : Head) (q : Typing) → rule h ≡ typed q → rank (place h) ≡ 13
 typed-place h q e = go (rule h) e (by_place h.word)
   where
-    go : (r : Rule) → r ≡ typed q → ByPlace r (rank (place h)) (word_no h.word) → (rank (place h) ≡ 13) × (word_no h.word ≡ 40 → ⊥)
-    go silent d b = absurd (let z : ◌≡◌ {A = ℕ} 0 1 = cc in omega arith)
-    go entering d b = absurd (let z : ◌≡◌ {A = ℕ} 0 1 = cc in omega arith)
+    go : (r : Rule) → r ≡ typed q → ByPlace r (rank (place h)) → rank (place h) ≡ 13
+    go silent d b = cc
+    go entering d b = cc
     go (typed k) d b = b
 
 pub entry_place_lem : (h : Head) → rule h ≡ entering → rank (place h) ≡ 11
 entry_place_lem h e = go (rule h) e (by_place h.word)
   where
-    go : (r : Rule) → r ≡ entering → ByPlace r (rank (place h)) (word_no h.word) → rank (place h) ≡ 11
-    go silent d b = absurd (let z : ◌≡◌ {A = ℕ} 0 1 = cc in omega arith)
-    go entering d b = b.0
-    go (typed k) d b = absurd (let z : ◌≡◌ {A = ℕ} 0 1 = cc in omega arith)
+    go : (r : Rule) → r ≡ entering → ByPlace r (rank (place h)) → rank (place h) ≡ 11
+    go silent d b = cc
+    go entering d b = b
+    go (typed k) d b = cc

@@ -6,18 +6,18 @@ use Prim.Native.Nat.{ℕ, suc, ◌+◌, ◌-◌, ◌*◌, ◌≤◌, ◌<◌}
 use native.Mathlib.Omega.{arith}
 use lib.ListN.{length, get_or, take, drop, length-append}
 use lib.Seq.{drop-cons}
-use Rattle.semantics.specs.Bytes.{Bytes, split}
+use Rattle.semantics.specs.Bytes.{Bytes}
 use Rattle.semantics.specs.Sheet.{Head, Place, expression_place, entry_place, Role, plain, condition, answer, inner, Typing, mapping, entering, rule, roles, arity, rank, Want, at, wanted}
 use Rattle.semantics.specs.Walk.{Env, Res, Fault, asked, step, walk}
 use Rattle.semantics.specs.Calls.{first_large}
 use Rattle.semantics.proofs.All.{All, also, all_drop}
 use Rattle.semantics.proofs.Regular.{regular-true}
-use Rattle.line.specs.Line.{HeadIs, ReadAs}
+use Rattle.line.specs.Line.{HeadIs}
+use Rattle.line.specs.Known.{KnownAs}
 use Rattle.line.specs.declared.line.Head.{Head as Seen}
-use Rattle.line.specs.declared.line.HirId.{HirId}
 use Rattle.exprs.specs.End.{Countable}
 use Rattle.hir.specs.Lines.{Lines, Met}
-use Rattle.hir.proofs.LinesLaws.{Inner, AllIn, one_in, read_at}
+use Rattle.hir.proofs.LinesLaws.{Inner, AllIn, one_in}
 use Rattle.ty.specs.Parts.{TypeAt}
 use Rattle.unify_run.specs.Run.{given}
 use Rattle.report.proofs.ReportLaws.{adds_then, faults-short}
@@ -35,7 +35,8 @@ use Rattle.infer.specs.declared.step.Env.{Env as Binds}
 use Rattle.infer.specs.Walks.{result_of, Counting, Behind, WalkedAs, AnyAt, AnyAsk}
 use Rattle.infer.specs.declared.walk.Cur.{Cur}
 use Rattle.infer.specs.declared.walk.Walk.{Walk}
-use Rattle.infer.specs.declared.walk.Walk.TheVariants.{Done, TooLarge}
+use Rattle.infer.specs.declared.walk.TooLarge.{TooLarge}
+use Rattle.std.specs.Prelude.{Result, Ok, Err}
 use Rattle.infer.proofs.WalkTable.{typing_of, entering-at, entry-arity, KidsOf, kids-at}
 use Rattle.infer.proofs.WalkTrees.{lines-in, FirstLine, first-line, First, first-met, met-rank, kids-many, walk_first, judged-none, judged-some}
 use Rattle.infer.proofs.WalkKept.{Form, if_kept, form-step, LowKept, low_step, place-small}
@@ -114,23 +115,23 @@ pub record DoneAs (r : Res) (work' out out' : Bytes) (y : Tally) (B : Cur → Ty
   pub adds : Adds r.faults out out' y z
   pub behind : B c
 
-pub walked-done : (r : Res) (work' out out' : Bytes) (y : Tally) (B : Cur → Type 0) (a : Walk) (len : ℕ) (c : Cur) (z : Tally) → WalkedAs (judged r) work' out out' y B a → a ≡ Done len c z
+pub walked-done : (r : Res) (work' out out' : Bytes) (y : Tally) (B : Cur → Type 0) (a : Result Walk TooLarge) (len : ℕ) (c : Cur) (z : Tally) → WalkedAs (judged r) work' out out' y B a → a ≡ Ok (record { len = len; cur = c; tally = z })
     → DoneAs r work' out out' y B len c z
 walked-done r work' out out' y B a len c z w e = go (first_large r.tests) refl
   where
     go : (o : Option ℕ) → first_large r.tests ≡ o → DoneAs r work' out out' y B len c z
     go none f =
-        let x = subst (λ (j : Ran). WalkedAs j work' out out' y B (Done len c z)) (judged-none r f) (subst (WalkedAs (judged r) work' out out' y B) e w) in
+        let x = subst (λ (j : Ran). WalkedAs j work' out out' y B (Ok (record { len = len; cur = c; tally = z }))) (judged-none r f) (subst (WalkedAs (judged r) work' out out' y B) e w) in
         record { none = f; type = x.0; adds = x.1; behind = x.2 }
-    go (some l) f = absurd (subst (λ (j : Ran). WalkedAs j work' out out' y B (Done len c z)) (judged-some r l f) (subst (WalkedAs (judged r) work' out out' y B) e w))
+    go (some l) f = absurd (subst (λ (j : Ran). WalkedAs j work' out out' y B (Ok (record { len = len; cur = c; tally = z }))) (judged-some r l f) (subst (WalkedAs (judged r) work' out out' y B) e w))
 
-pub walked-large : (r : Res) (work' out out' : Bytes) (y : Tally) (B : Cur → Type 0) (a : Walk) (m : HirId) → WalkedAs (judged r) work' out out' y B a → a ≡ TooLarge m
-    → first_large r.tests ≡ some m.0
+pub walked-large : (r : Res) (work' out out' : Bytes) (y : Tally) (B : Cur → Type 0) (a : Result Walk TooLarge) (m : TooLarge) → WalkedAs (judged r) work' out out' y B a → a ≡ Err m
+    → first_large r.tests ≡ some m.0.0
 walked-large r work' out out' y B a m w e = go (first_large r.tests) refl
   where
-    go : (o : Option ℕ) → first_large r.tests ≡ o → o ≡ some m.0
-    go none f = absurd (subst (λ (j : Ran). WalkedAs j work' out out' y B (TooLarge m)) (judged-none r f) (subst (WalkedAs (judged r) work' out out' y B) e w))
-    go (some l) f = ap some (sym (subst (λ (j : Ran). WalkedAs j work' out out' y B (TooLarge m)) (judged-some r l f) (subst (WalkedAs (judged r) work' out out' y B) e w)))
+    go : (o : Option ℕ) → first_large r.tests ≡ o → o ≡ some m.0.0
+    go none f = absurd (subst (λ (j : Ran). WalkedAs j work' out out' y B (Err m)) (judged-none r f) (subst (WalkedAs (judged r) work' out out' y B) e w))
+    go (some l) f = ap some (sym (subst (λ (j : Ran). WalkedAs j work' out out' y B (Err m)) (judged-some r l f) (subst (WalkedAs (judged r) work' out out' y B) e w)))
 
 -- ## A child more
 
@@ -165,10 +166,10 @@ module _ {s : Bytes} {h : Seen} {here depth : ℕ} {hd : Head} {hs ks : List Hea
     pub turn-line : FirstLine s c.at turn-first.head turn-first.under (length s)
     turn-line = first-line (subst (λ (x : List Head). Lines s c.at x (length s)) turn-first.same L.lines)
 
-    pub turn-read : (k : Seen) → ReadAs s c.at k (split 10 (drop c.at s)) → HeadIs s k turn-first.head × (k.next ≡ turn-line.next)
-    turn-read k r = read_at s c.at turn-line.next turn-first.head k turn-line.line r
+    pub turn-read : (k : Seen) → KnownAs s c.at k → HeadIs s k turn-first.head × (k.next ≡ turn-line.next)
+    turn-read k r = let x = r turn-first.head turn-line.next turn-line.line in (x.1, x.0)
 
-    abbrev pub turn_any : (k : Seen) → ReadAs s c.at k (split 10 (drop c.at s)) → AnyAt s k c (depth - 1)
+    abbrev pub turn_any : (k : Seen) → KnownAs s c.at k → AnyAt s k c (depth - 1)
     turn_any k r =
         record {
           place = placed (role_at hd j);
@@ -188,7 +189,7 @@ module _ {s : Bytes} {h : Seen} {here depth : ℕ} {hd : Head} {hs ks : List Hea
           next = (turn-read k r).1;
         }
 
-    pub turn-ask : (b : Binds) (k : Seen) (r : ReadAs s c.at k (split 10 (drop c.at s))) → EnvAs s b env → (part : Bytes) → 1024 * (depth + 40) ≤ length part + st.len → Counting y₀ (suc (length hs))
+    pub turn-ask : (b : Binds) (k : Seen) (r : KnownAs s c.at k) → EnvAs s b env → (part : Bytes) → 1024 * (depth + 40) ≤ length part + st.len → Counting y₀ (suc (length hs))
         → AnyAsk s b k c (depth - 1) part y
     turn-ask b k r u part room n =
         record {

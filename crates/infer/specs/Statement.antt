@@ -1,5 +1,5 @@
 -- The clauses of a sheet: what they require, and the report that they ensure.
-use Rattle.std.specs.Prelude.{◌≡◌, List, ℕ, ◌+◌, ◌*◌, ◌≤◌, ◌<◌, length}
+use Rattle.std.specs.Prelude.{◌≡◌, Result, Ok, Err, List, ℕ, ◌+◌, ◌*◌, ◌≤◌, ◌<◌, length}
 use Rattle.std.proofs.Math.Option.{Option, none, some}
 use Rattle.std.proofs.lemmas.List.Edits.{sets}
 use Rattle.semantics.specs.Limits.{type_limit}
@@ -13,8 +13,7 @@ use Rattle.tops.specs.Standing.{Standing}
 use Rattle.infer.specs.Steps.{EnvAs}
 use Rattle.infer.specs.declared.step.Env.{Env as Binds}
 use Rattle.infer.specs.declared.walk.Cur.{Cur}
-use Rattle.infer.specs.declared.statement.Report.{Report}
-use Rattle.infer.specs.declared.statement.Report.TheVariants.{Made, TooLarge}
+use Rattle.infer.specs.declared.walk.TooLarge.{TooLarge}
 
 -- the clauses stand at the cursor, up to the end of the sheet, with so many levels for each top expression
 pub record StatementAt (levels : ℕ) (s : Bytes) (c : Cur) : Type 0 where
@@ -31,13 +30,13 @@ pub record StatementAsk (levels : ℕ) (s : Bytes) (b : Binds) (c : Cur) (work :
   pub room : type_limit * (levels + 40) ≤ length work
 
 -- the line of the first type that is too large; or the report from the start of the output on, and its length
-abbrev pub MadeAs : Option ℕ → List Top → Bytes → Bytes → Report → Type 0
-MadeAs none ts out out' (Made n) = (n ≡ length (report ts)) × (out' ≡ sets out 0 (report ts))
-MadeAs none ts out out' (TooLarge m) = ⊥
-MadeAs (some l) ts out out' (Made n) = ⊥
-MadeAs (some l) ts out out' (TooLarge m) = m.0 ≡ l
+abbrev pub MadeAs : Option ℕ → List Top → Bytes → Bytes → Result ℕ TooLarge → Type 0
+MadeAs none ts out out' (Ok n) = (n ≡ length (report ts)) × (out' ≡ sets out 0 (report ts))
+MadeAs none ts out out' (Err m) = ⊥
+MadeAs (some l) ts out out' (Ok n) = ⊥
+MadeAs (some l) ts out out' (Err m) = m.0.0 ≡ l
 
-pub record Reported (levels : ℕ) (s : Bytes) (b : Binds) (c : Cur) (work work' out out' : Bytes) (r : Report) : Type 0 where
+pub record Reported (levels : ℕ) (s : Bytes) (b : Binds) (c : Cur) (work work' out out' : Bytes) (r : Result ℕ TooLarge) : Type 0 where
   pub long : length work' ≡ length work
   pub as_long : length out' ≡ length out
   pub made : (a : StatementAt levels s c) (env : Env) → EnvAs s b env

@@ -1,5 +1,6 @@
--- The steps of an expression by the number of its rule: what they require and ensure.
-use Rattle.std.specs.Prelude.{◌≡◌, [], map, ℕ, ◌+◌, ◌*◌, ◌≤◌, length}
+-- The steps of an expression by its rule: what they require and ensure.
+use Rattle.std.specs.Prelude.{◌≡◌, Some, None, [], map, ℕ, ◌+◌, ◌*◌, ◌≤◌, length}
+use Rattle.std.specs.declared.option.Option.{Option as Optional}
 use Rattle.std.proofs.Math.Option.{Option, none, some}
 use Rattle.std.proofs.Math.Seq.{slice}
 use Rattle.semantics.specs.Limits.{type_limit}
@@ -19,12 +20,12 @@ use Rattle.report.specs.Report.{Adds}
 use Rattle.report.specs.declared.Tally.{Tally}
 use Rattle.exprs.specs.State.{StAs, FineKept, ChildAt, FirstForm, ArmForm, ItemRoom, Keeps}
 use Rattle.exprs.specs.declared.state.Accumulator.{Accumulator}
-use Rattle.exprs.specs.declared.state.Keep.{Keep}
-use Rattle.exprs.specs.Rules.{typing_no, role_no}
+use Rattle.exprs.specs.declared.rule.Rule.{Rule}
+use Rattle.exprs.specs.declared.role.Role.{Role as CodeRole}
+use Rattle.exprs.specs.Rules.{typing_rule, child_role}
 use Rattle.exprs.specs.End.{Ends, Countable}
-use Rattle.exprs.specs.declared.state.Ended.{Ended}
+use Rattle.exprs.specs.declared.state.Typed.{Typed}
 use Rattle.infer.specs.declared.step.Stepped.{Stepped}
-use Rattle.infer.specs.declared.step.Stepped.TheVariants.{On, Large}
 use Rattle.infer.specs.declared.step.Env.{Env as Binds}
 
 -- ## Which forms a rule keeps
@@ -180,37 +181,37 @@ pub record StepAt (q : Typing) (p : Role) (k : Kept) (t : Ty) (m : Bytes) (s : B
   pub wide : type_limit ≤ length s
   pub spelt : x ≡ map hex m
 
-pub record SomeStep (i r : ℕ) (s : Bytes) (st : Accumulator) (n : ℕ) (x : Bytes) : Type 0 where
+pub record SomeStep (i : Rule) (r : CodeRole) (s : Bytes) (st : Accumulator) (n : ℕ) (x : Bytes) : Type 0 where
   pub typing : Typing
   pub role : Role
   pub kept : Kept
   pub ty : Ty
   pub name : Bytes
-  pub rule_is : i ≡ typing_no typing
-  pub role_is : r ≡ role_no role
+  pub rule_is : i ≡ typing_rule typing
+  pub role_is : r ≡ child_role role
   pub at : StepAt typing role kept ty name s st n x
 
-abbrev pub KeptBy : ℕ → ℕ → Bytes → Bytes → Accumulator → ℕ → Bytes → Keep → Type 0
-KeptBy i r s s' st n x a = (q : Typing) (p : Role) (k : Kept) (t : Ty) (m : Bytes) → i ≡ typing_no q → r ≡ role_no p → StepAt q p k t m s st n x → Keeps (child q p k m t) s s' a
+abbrev pub KeptBy : Rule → CodeRole → Bytes → Bytes → Accumulator → ℕ → Bytes → Optional Accumulator → Type 0
+KeptBy i r s s' st n x a = (q : Typing) (p : Role) (k : Kept) (t : Ty) (m : Bytes) → i ≡ typing_rule q → r ≡ child_role p → StepAt q p k t m s st n x → Keeps (child q p k m t) s s' a
 
 -- what a child's type is asked for
-abbrev pub AskedBy : ℕ → ℕ → Bytes → Bytes → Tally → Tally → Type 0
-AskedBy i kind out out' y z = (p : Role) (t : Ty) → i ≡ role_no p → kind_of t ≡ kind → Adds (asked p t) out out' y z
+abbrev pub AskedBy : CodeRole → ℕ → Bytes → Bytes → Tally → Tally → Type 0
+AskedBy i kind out out' y z = (p : Role) (t : Ty) → i ≡ child_role p → kind_of t ≡ kind → Adds (asked p t) out out' y z
 
-abbrev pub SteppedAs : Option Kept → Bytes → (Tally → Type 0) → Stepped → Type 0
-SteppedAs none s A (On st y) = ⊥
-SteppedAs none s A Large = Unit {0}
-SteppedAs (some k) s A (On st y) = StAs k s st × FineKept k × A y
-SteppedAs (some k) s A Large = ⊥
+abbrev pub SteppedAs : Option Kept → Bytes → (Tally → Type 0) → Optional Stepped → Type 0
+SteppedAs none s A (Some r) = ⊥
+SteppedAs none s A None = Unit {0}
+SteppedAs (some k) s A (Some r) = StAs k s r.st × FineKept k × A r.tally
+SteppedAs (some k) s A None = ⊥
 
-pub record Steps (k : Option Kept) (p : Role) (t : Ty) (s s' out out' : Bytes) (y : Tally) (r : Stepped) : Type 0 where
+pub record Steps (k : Option Kept) (p : Role) (t : Ty) (s s' out out' : Bytes) (y : Tally) (r : Optional Stepped) : Type 0 where
   pub answer : SteppedAs k s' (Adds (asked p t) out out' y) r
   pub long : length s' ≡ length s
   pub as_long : length out' ≡ length out
 
-abbrev pub SteppedBy : ℕ → ℕ → Bytes → Bytes → Accumulator → ℕ → Bytes → Bytes → Bytes → Tally → Stepped → Type 0
+abbrev pub SteppedBy : Rule → CodeRole → Bytes → Bytes → Accumulator → ℕ → Bytes → Bytes → Bytes → Tally → Optional Stepped → Type 0
 SteppedBy i r s s' st n x out out' y a =
-    (q : Typing) (p : Role) (k : Kept) (t : Ty) (m : Bytes) → i ≡ typing_no q → r ≡ role_no p → StepAt q p k t m s st n x → Steps (child q p k m t) p t s s' out out' y a
+    (q : Typing) (p : Role) (k : Kept) (t : Ty) (m : Bytes) → i ≡ typing_rule q → r ≡ child_role p → StepAt q p k t m s st n x → Steps (child q p k m t) p t s s' out out' y a
 
 -- ## The end
 
@@ -249,7 +250,7 @@ pub record SomeEnd (sheet : Bytes) (b : Binds) (h : Seen) (s : Bytes) (st : Accu
   pub bound : EnvAs sheet b env
   pub count : Countable y
 
-abbrev pub EndedBy : Bytes → Binds → Seen → Bytes → Bytes → Accumulator → Bytes → Bytes → Tally → Ended → Type 0
+abbrev pub EndedBy : Bytes → Binds → Seen → Bytes → Bytes → Accumulator → Bytes → Bytes → Tally → Optional Typed → Type 0
 EndedBy sheet b h s s' st out out' y r =
     (q : Typing) (k : Kept) (hd : Head) (env : Env) → EndAt q k hd sheet h s st → EnvAs sheet b env → Ends (end q env hd k) s s' out out' y r
 
@@ -261,6 +262,6 @@ pub record SpeltAs (name stop r : ℕ) : Type 0 where
   pub same : (s : Bytes) → slice r stop s ≡ slice name stop s
 
 -- an end that adds no fault and is never too large, by its type
-abbrev pub QuietBy : ℕ → Bytes → Binds → Seen → Bytes → Bytes → Accumulator → ℕ → Type 0
+abbrev pub QuietBy : Rule → Bytes → Binds → Seen → Bytes → Bytes → Accumulator → ℕ → Type 0
 QuietBy i sheet b h s s' st r =
-    (q : Typing) (k : Kept) (hd : Head) (env : Env) → i ≡ typing_no q → EndAt q k hd sheet h s st → EnvAs sheet b env → (t : Ty) → end q env hd k ≡ told t [] → Returned s s' t r
+    (q : Typing) (k : Kept) (hd : Head) (env : Env) → i ≡ typing_rule q → EndAt q k hd sheet h s st → EnvAs sheet b env → (t : Ty) → end q env hd k ≡ told t [] → Returned s s' t r

@@ -1,26 +1,25 @@
 -- What the walks require and ensure: the trees of lines that stand at a cursor, and what they come to.
-use Rattle.std.specs.Prelude.{◌≡◌, List, [], ◌∷◌, ℕ, suc, ◌+◌, ◌*◌, ◌<◌, ◌≤◌, ◌^◌, length, get_or, take, drop}
+use Rattle.std.specs.Prelude.{◌≡◌, Result, Ok, Err, List, [], ◌∷◌, ℕ, suc, ◌+◌, ◌*◌, ◌<◌, ◌≤◌, ◌^◌, length, take, drop}
 use Rattle.semantics.specs.Limits.{type_limit}
-use Rattle.semantics.specs.Codes.{line_feed, end_rank}
-use Rattle.semantics.specs.Bytes.{Bytes, split}
-use Rattle.semantics.specs.Sheet.{Head, Place, expression_place, silent, rule, rank, Want, at, arity}
+use Rattle.semantics.specs.Codes.{end_rank}
+use Rattle.semantics.specs.Bytes.{Bytes}
+use Rattle.semantics.specs.Sheet.{Head, Place, expression_place, nothing, entering, row, silent, rule, rank, Want, at, arity}
 use Rattle.semantics.specs.Walk.{Env, Res, step, walk}
-use Rattle.line.specs.Arrays.{groups, seconds}
-use Rattle.line.specs.Line.{HeadIs, ReadAs}
+use Rattle.line.specs.Words.{word_of}
+use Rattle.line.specs.Line.{HeadIs}
+use Rattle.line.specs.Known.{KnownAs}
+use Rattle.line.specs.declared.words.Word.{Word}
 use Rattle.line.specs.declared.line.Head.{Head as Seen}
-use Rattle.line.specs.declared.line.HirId.{HirId}
 use Rattle.hir.specs.Lines.{LineAt, Lines, Met}
 use Rattle.ty.specs.Parts.{TypeAt}
 use Rattle.report.specs.Report.{Adds}
 use Rattle.report.specs.declared.Tally.{Tally}
-use Rattle.exprs.specs.declared.state.Ended.{Ended}
-use Rattle.exprs.specs.declared.state.Ended.TheVariants.{Typed, Large}
 use Rattle.walk_run.specs.Run.{Ran, halted, typed, judged}
 use Rattle.infer.specs.Steps.{EnvAs}
 use Rattle.infer.specs.declared.step.Env.{Env as Binds}
 use Rattle.infer.specs.declared.walk.Cur.{Cur}
 use Rattle.infer.specs.declared.walk.Walk.{Walk}
-use Rattle.infer.specs.declared.walk.Walk.TheVariants.{Done, TooLarge}
+use Rattle.infer.specs.declared.walk.TooLarge.{TooLarge}
 
 -- a tree at the cursor whose first line meets a want; `rest` is what stands behind it
 pub record TreeAt (w : Want) (s : Bytes) (c : Cur) : Type 0 where
@@ -51,13 +50,13 @@ pub record Behind (env : Env) (s : Bytes) (n : ℕ) (h : Head) (hs ks : List Hea
   pub walked : drop (arity h) (walk env (suc n) hs) ≡ walk env c.line.0 ks
 
 -- the answer of a walk: stopped at a line; or the type at the front, the faults added, and the cursor behind the tree
-abbrev pub WalkedAs : Ran → Bytes → Bytes → Bytes → Tally → (Cur → Type 0) → Walk → Type 0
-WalkedAs (halted l) work' out out' y B (Done len c z) = ⊥
-WalkedAs (halted l) work' out out' y B (TooLarge m) = m.0 ≡ l
-WalkedAs (typed t fs) work' out out' y B (Done len c z) = TypeAt work' 0 len t × Adds fs out out' y z × B c
-WalkedAs (typed t fs) work' out out' y B (TooLarge m) = ⊥
+abbrev pub WalkedAs : Ran → Bytes → Bytes → Bytes → Tally → (Cur → Type 0) → Result Walk TooLarge → Type 0
+WalkedAs (halted l) work' out out' y B (Ok w) = ⊥
+WalkedAs (halted l) work' out out' y B (Err m) = m.0.0 ≡ l
+WalkedAs (typed t fs) work' out out' y B (Ok w) = TypeAt work' 0 w.len t × Adds fs out out' y w.tally × B w.cur
+WalkedAs (typed t fs) work' out out' y B (Err m) = ⊥
 
-pub record Walked (env : Env) (s : Bytes) (n : ℕ) (h : Head) (hs ks : List Head) (work work' out out' : Bytes) (y : Tally) (r : Walk) : Type 0 where
+pub record Walked (env : Env) (s : Bytes) (n : ℕ) (h : Head) (hs ks : List Head) (work work' out out' : Bytes) (y : Tally) (r : Result Walk TooLarge) : Type 0 where
   pub answer : WalkedAs (judged (result_of env n h hs)) work' out out' y (Behind env s n h hs ks) r
   pub long : length work' ≡ length work
   pub as_long : length out' ≡ length out
@@ -76,15 +75,14 @@ pub record ExprAsk (s : Bytes) (b : Binds) (h : Seen) (c : Cur) (depth : ℕ) (w
   pub room : type_limit * (depth + 40) ≤ length work
   pub count : Counting y (suc (length at.tree.under))
 
-abbrev pub ExprWalked : Bytes → Binds → Seen → Cur → ℕ → Bytes → Bytes → Bytes → Bytes → Tally → Walk → Type 0
+abbrev pub ExprWalked : Bytes → Binds → Seen → Cur → ℕ → Bytes → Bytes → Bytes → Bytes → Tally → Result Walk TooLarge → Type 0
 ExprWalked s b h c depth work work' out out' y r =
     (a : ExprAt s h c depth) (env : Env) → EnvAs s b env → Walked env s c.line.0 a.tree.head a.tree.under a.tree.rest work work' out out' y r
 
 -- ## An expression below whose line nothing can stand, with any number of levels left
 
--- both groups of the word are empty
-abbrev pub Leaf : ℕ → Type 0
-Leaf word = (get_or groups word 0 ≡ 0) × (get_or seconds word 0 ≡ 0)
+abbrev pub Leaf : Word → Type 0
+Leaf word = (row (word_of word)).under ≡ nothing
 
 pub record LeafAsk (s : Bytes) (b : Binds) (h : Seen) (c : Cur) (work : Bytes) (y : Tally) : Type 0 where
   pub depth : ℕ
@@ -92,7 +90,7 @@ pub record LeafAsk (s : Bytes) (b : Binds) (h : Seen) (c : Cur) (work : Bytes) (
   pub leaf : Leaf h.word
 
 abbrev pub LeafWalked : Bytes → Binds → Seen → Cur → Bytes → Bytes → Bytes → Bytes → Tally → Walk → Type 0
-LeafWalked s b h c work work' out out' y r = (depth : ℕ) → ExprWalked s b h c depth work work' out out' y r
+LeafWalked s b h c work work' out out' y r = (depth : ℕ) → ExprWalked s b h c depth work work' out out' y (Ok r)
 
 -- ## Any tree inside a clause: `depth` levels are left for its expressions, its own line included
 
@@ -110,7 +108,7 @@ pub record AnyAsk (s : Bytes) (b : Binds) (k : Seen) (c : Cur) (depth : ℕ) (wo
   pub room : type_limit * (depth + 40) ≤ length work
   pub count : Counting y (suc (length at.tree.under))
 
-abbrev pub AnyWalked : Bytes → Binds → Seen → Cur → ℕ → Bytes → Bytes → Bytes → Bytes → Tally → Walk → Type 0
+abbrev pub AnyWalked : Bytes → Binds → Seen → Cur → ℕ → Bytes → Bytes → Bytes → Bytes → Tally → Result Walk TooLarge → Type 0
 AnyWalked s b k c depth work work' out out' y r =
     (a : AnyAt s k c depth) (env : Env) → EnvAs s b env → Walked env s c.line.0 a.tree.head a.tree.under a.tree.rest work work' out out' y r
 
@@ -129,7 +127,7 @@ pub record PatternAsk (s : Bytes) (b : Binds) (c : Cur) (depth : ℕ) (work : By
   pub room : type_limit * (depth + 40) ≤ length work
   pub count : Counting y (suc (length at.tree.under))
 
-abbrev pub PatternWalked : Bytes → Binds → Cur → ℕ → Bytes → Bytes → Bytes → Bytes → Tally → Walk → Type 0
+abbrev pub PatternWalked : Bytes → Binds → Cur → ℕ → Bytes → Bytes → Bytes → Bytes → Tally → Result Walk TooLarge → Type 0
 PatternWalked s b c depth work work' out out' y r =
     (a : PatternAt s c depth) (env : Env) → EnvAs s b env → Walked env s c.line.0 a.tree.head a.tree.under a.tree.rest work work' out out' y r
 
@@ -137,10 +135,5 @@ PatternWalked s b c depth work work' out out' y r =
 
 -- an entry's expression stands on the line behind it; any other line stands for itself
 pub record EntersAs (s : Bytes) (k : Seen) (c : Cur) (e : Seen) (d : Cur) : Type 0 where
-  pub entry : k.word ≡ 40 → ReadAs s k.next e (split line_feed (drop k.next s)) × (d.at ≡ k.next) × (d.line.0 ≡ c.line.0 + 1)
-  pub itself : (k.word ≡ 40 → ⊥) → (e ≡ k) × (d ≡ c)
-
--- the answer of an expression
-abbrev pub ToldAs : Ended → HirId → Cur → Walk → Type 0
-ToldAs (Typed len z) here c r = r ≡ Done len c z
-ToldAs Large here c r = r ≡ TooLarge here
+  pub entry : (row (word_of k.word)).rule ≡ entering → KnownAs s k.next e × (d.at ≡ k.next) × (d.line.0 ≡ c.line.0 + 1)
+  pub itself : ((row (word_of k.word)).rule ≡ entering → ⊥) → (e ≡ k) × (d ≡ c)

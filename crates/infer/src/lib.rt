@@ -5,6 +5,6 @@ mod statement;
 mod step;
 mod walk;
 
-pub use statement::{Report, check_statement};
-pub use step::Env;
-pub use walk::Cur;
+pub use statement::check_statement;
+pub use step::{Env, Sheet};
+pub use walk::{Cur, TooLarge};

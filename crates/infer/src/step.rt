@@ -6,14 +6,12 @@ ghost use Rattle.walk_run.specs.Run.{start};
 ghost use Rattle.ty.specs.Kind.{SomeKind};
 ghost use Rattle.exprs.specs.State.{StAs, FineKept};
 ghost use Rattle.exprs.specs.End.{Countable};
-ghost use Rattle.exprs.specs.Rules.{typing_no};
+ghost use Rattle.exprs.specs.Rules.{typing_rule};
 ghost use Rattle.infer.specs.Steps.{AskedBy, SomeStep, KeptBy, SteppedBy, SpeltAs, SomeEnd, EndedBy};
 
-use exprs::{
-    Accumulator, CALL, CASING, COMPREHENSION, CONDITION, CONSTANT, ELEMENT, Ended, Keep, LISTING,
-    MAPPING, MEMBERSHIP, OPERATOR, SLICE, UNARY, VARIABLE, rule_of,
-};
+use exprs::{Accumulator, Role, Rule, Typed, rule_of};
 use line::Head;
+use operators::Need;
 use report::Tally;
 
 // Where the `b` lines stand.
@@ -23,78 +21,89 @@ pub struct Env {
     pub to: usize,
 }
 
-// What is kept after a child; or it is too large.
+// A sheet that was read as a whole: its text, and its `b` lines.
+#[derive(Clone, Copy)]
+pub struct Sheet<'s> {
+    pub text: &'s [u8],
+    pub binds: Env,
+}
+
+// What is kept after a child, and the output's counts.
 #[derive(Drop)]
-pub enum Stepped {
-    On { st: Accumulator, tally: Tally },
-    Large,
+pub struct Stepped {
+    pub st: Accumulator,
+    pub tally: Tally,
 }
 
 // Before the first child.
-pub fn start(rule: usize, work: &mut [u8]) -> Accumulator
+pub fn start(rule: Rule, work: &mut [u8]) -> Accumulator
     requires { type_limit ≤ length work.old }
-    ensures { (length work.new ≡ length work.old) × ((q : Typing) → rule ≡ typing_no q → StAs (start q) work.new result × FineKept (start q)) }
+    ensures { (length work.new ≡ length work.old) × ((q : Typing) → rule ≡ typing_rule q → StAs (start q) work.new result × FineKept (start q)) }
 {
     match rule {
-        LISTING => exprs::start_list(work),
-        MAPPING => exprs::start_map(work),
-        CASING => exprs::start_case(),
-        COMPREHENSION => exprs::start_comprehension(work),
+        Rule::Listing => exprs::start_list(work),
+        Rule::Mapping => exprs::start_map(work),
+        Rule::Casing => exprs::start_case(),
+        Rule::Comprehension => exprs::start_comprehension(work),
         _ => exprs::start_empty(),
     }
 }
 
 // What is kept after a child.
-fn keep(rule: usize, role: usize, st: Accumulator, work: &mut [u8], n: usize, name: &[u8]) -> Keep
+fn keep(
+    rule: Rule,
+    role: Role,
+    st: Accumulator,
+    work: &mut [u8],
+    n: usize,
+    name: &[u8],
+) -> Option<Accumulator>
     requires { SomeStep rule role work.old st n name.now }
     ensures { KeptBy rule role work.old work.new st n name.now result }
 {
     match rule {
-        ELEMENT => Keep::On(exprs::keep_first(st, n)),
-        SLICE => Keep::On(exprs::keep_first(st, n)),
-        LISTING => exprs::list_item(st, work, n),
-        MAPPING => exprs::map_value(st, work, n, name),
-        CALL => Keep::On(exprs::keep_first(st, n)),
-        OPERATOR => Keep::On(exprs::keep_two(st, n)),
-        UNARY => Keep::On(exprs::keep_first(st, n)),
-        CASING => Keep::On(exprs::case_child(role, st, work, n)),
-        MEMBERSHIP => Keep::On(exprs::keep_two(st, n)),
-        COMPREHENSION => Keep::On(exprs::comprehension_child(st, n)),
-        _ => Keep::On(st),
+        Rule::Listing => exprs::list_item(st, work, n),
+        Rule::Mapping => exprs::map_value(st, work, n, name),
+        Rule::Element | Rule::Slice | Rule::Call | Rule::Unary => Some(exprs::keep_first(st, n)),
+        Rule::Operator | Rule::Membership => Some(exprs::keep_two(st, n)),
+        Rule::Casing => Some(exprs::case_child(role, st, work, n)),
+        Rule::Comprehension => Some(exprs::comprehension_child(st, n)),
+        Rule::Constant | Rule::Variable | Rule::Silent | Rule::Entry => Some(st),
     }
 }
 
 // What a child's type is asked for by its role.
-fn check_role(role: usize, kind: u8, out: &mut [u8], tally: Tally) -> Tally
+fn check_role(role: Role, kind: u8, out: &mut [u8], tally: Tally) -> Tally
     requires { Countable tally × SomeKind kind }
     ensures { AskedBy role kind out.old out.new tally result }
 {
-    if role == CONDITION {
-        return operators::require_bool(kind, out, tally);
+    match role {
+        Role::Condition => operators::require(Need::Bool, kind, out, tally),
+        Role::Plain | Role::Answer => tally,
     }
-    tally
 }
 
 // After a child of `n` bytes behind what is kept; an entry's name in hexadecimal digits.
 pub fn step(
-    rule: usize,
-    role: usize,
+    rule: Rule,
+    role: Role,
     st: Accumulator,
     work: &mut [u8],
     n: usize,
     name: &[u8],
     out: &mut [u8],
     tally: Tally,
-) -> Stepped
+) -> Option<Stepped>
     requires { SomeStep rule role work.old st n name.now × Countable tally }
     ensures { SteppedBy rule role work.old work.new st n name.now out.old out.new tally result }
 {
     let k = st.len;
-    let y = check_role(role, work[k], out, tally);
-    match keep(rule, role, st, work, n, name) {
-        Keep::On(s) => Stepped::On { st: s, tally: y },
-        Keep::Large => Stepped::Large,
-    }
+    let asked = check_role(role, work[k], out, tally);
+    let kept = keep(rule, role, st, work, n, name)?;
+    Some(Stepped {
+        st: kept,
+        tally: asked,
+    })
 }
 
 // Where the name of a line starts.
@@ -106,52 +115,38 @@ pub fn spelt(k: Head) -> usize
 
 // After the last child: the type to the front, the line's own faults to the output.
 pub fn finish(
-    b: Env,
-    sheet: &[u8],
+    sheet: Sheet<'_>,
     h: Head,
     st: Accumulator,
     work: &mut [u8],
     out: &mut [u8],
     tally: Tally,
-) -> Ended
-    requires { SomeEnd sheet.now b h work.old st tally }
-    ensures { EndedBy sheet.now b h work.old work.new st out.old out.new tally result }
+) -> Option<Typed>
+    requires { SomeEnd sheet.text.now sheet.binds h work.old st tally }
+    ensures { EndedBy sheet.entry.text.now sheet.entry.binds h work.old work.new st out.old out.new tally result }
 {
-    let rule = rule_of(h.word);
-    match rule {
-        CONSTANT => Ended::Typed {
-            len: exprs::constant(h.word, work),
-            tally,
-        },
-        VARIABLE => {
+    let len = match rule_of(h.word) {
+        Rule::Constant => exprs::constant(h.word, work),
+        Rule::Variable => {
             let v = h.var;
-            Ended::Typed {
-                len: exprs::var_type(sheet, b.from, b.to, v, work),
-                tally,
-            }
+            exprs::var_type(sheet.text, sheet.binds.from, sheet.binds.to, v, work)
         }
-        ELEMENT => Ended::Typed {
-            len: exprs::end_index(st, work),
-            tally,
-        },
-        SLICE => Ended::Typed {
-            len: exprs::end_slice(st, work),
-            tally,
-        },
-        LISTING => Ended::Typed {
-            len: exprs::end_list(st, work),
-            tally,
-        },
-        MAPPING => Ended::Typed { len: st.len, tally },
-        CALL => {
+        Rule::Element => exprs::end_index(st, work),
+        Rule::Slice => exprs::end_slice(st, work),
+        Rule::Listing => exprs::end_list(st, work),
+        Rule::Mapping => st.len,
+        Rule::Call => {
+            let text = sheet.text;
             let n = spelt(h);
             let e = h.stop;
-            exprs::end_call(&sheet[n..e], st, work, out, tally)
+            return Some(exprs::end_call(&text[n..e], st, work, out, tally));
         }
-        OPERATOR => operators::infer_binop(h.num, st, work, out, tally),
-        UNARY => operators::infer_unaryop(h.num, work, out, tally, st),
-        CASING => exprs::end_case(st, work, out, tally),
-        MEMBERSHIP => operators::check_in_list(st, work, out, tally),
-        _ => exprs::end_comprehension(st, work, out, tally),
-    }
+        Rule::Operator => return operators::infer_binop(h.num, st, work, out, tally),
+        Rule::Unary => return Some(operators::infer_unaryop(h.num, work, out, tally, st)),
+        Rule::Casing => return exprs::end_case(st, work, out, tally),
+        Rule::Membership => return operators::check_in_list(st, work, out, tally),
+        Rule::Comprehension => return exprs::end_comprehension(st, work, out, tally),
+        Rule::Silent | Rule::Entry => unreachable!(),
+    };
+    Some(Typed { len, tally })
 }

@@ -1,11 +1,16 @@
-// The three walks that call each other.
+// The walks that call each other.
 ghost use Rattle.std.specs.Prelude.{◌≡◌, ◌+◌, ◌<◌, ◌≤◌, length};
-ghost use Rattle.infer.specs.Walks.{EntersAs, ToldAs, ExprAsk, ExprWalked, LeafAsk, LeafWalked, AnyAsk, AnyWalked, PatternAsk, PatternWalked};
+ghost use Rattle.semantics.specs.Sheet.{row, entering};
+ghost use Rattle.line.specs.Words.{word_of};
+ghost use Rattle.line.specs.Known.{FineAt};
+ghost use Rattle.semantics.specs.declared.refusals.Refusal.TheVariants.{TypeTooLarge};
+ghost use Rattle.infer.specs.Walks.{EntersAs, ExprAsk, ExprWalked, LeafAsk, LeafWalked, AnyAsk, AnyWalked, PatternAsk, PatternWalked};
 
-use crate::step::{Env, Stepped, finish, spelt, start, step};
-use exprs::{Accumulator, Ended, role_of, rule_of};
-use line::{Head, HirId, class_of, is_leaf, read_line};
+use crate::step::{Sheet, finish, spelt, start, step};
+use exprs::{Accumulator, role_of, rule_of};
+use line::{Head, HirId, Place, Word, is_leaf, known_line, place_of};
 use report::Tally;
+use semantics::{Refusal, Refused};
 
 // The next line's place and number.
 #[derive(Clone, Copy)]
@@ -14,12 +19,28 @@ pub struct Cur {
     pub line: HirId,
 }
 
-// The length of the type at the front of the work area, the cursor behind the lines walked, and the output's counts; or the line of the
-// innermost expression being typed when a type was too large.
+// What a walk comes to: the length of the type at the front of the work area, the cursor behind the lines walked, and the output's counts.
 #[derive(Drop)]
-pub enum Walk {
-    Done { len: usize, cur: Cur, tally: Tally },
-    TooLarge(HirId),
+pub struct Walk {
+    pub len: usize,
+    pub cur: Cur,
+    pub tally: Tally,
+}
+
+// A type was too large: the line of the innermost expression that was being typed.
+#[derive(Clone, Copy)]
+pub struct TooLarge(pub HirId);
+
+impl From<TooLarge> for Refused {
+    ghost from_gives = { λ t r. r ≡ record { why = TypeTooLarge; place = t.0.0 } };
+
+    fn from(large: TooLarge) -> Refused {
+        let line = large.0;
+        Refused {
+            why: Refusal::TypeTooLarge,
+            place: u64::from(line.0),
+        }
+    }
 }
 
 // The cursor behind a line.
@@ -40,17 +61,20 @@ struct Met {
 
 // An entry's expression stands on the line behind it; any other line stands for itself.
 fn entered(sheet: &[u8], k: Head, c: Cur) -> Met
-    requires { (c.line.0 < 4294967295) × (k.next ≤ length sheet.now) }
+    requires { (c.line.0 < 4294967295) × ((row (word_of k.word)).rule ≡ entering → FineAt sheet.now k.next) }
     ensures { EntersAs sheet.now k c result.head result.cur }
 {
-    if k.word != line::KEY {
-        return Met { head: k, cur: c };
-    }
-    let cur = past(c, k);
-    let p = cur.at;
-    Met {
-        head: read_line(sheet, p, false),
-        cur,
+    let word = k.word;
+    match word {
+        Word::Key => {
+            let cur = past(c, k);
+            let p = cur.at;
+            Met {
+                head: known_line(sheet, p),
+                cur,
+            }
+        }
+        _ => Met { head: k, cur: c },
     }
 }
 
@@ -58,196 +82,170 @@ fn entered(sheet: &[u8], k: Head, c: Cur) -> Met
 fn before_child(st: Accumulator) -> Accumulator
     ensures { (result.len ≡ st.len) × (result.second ≡ 0) × (result.over ≡ st.over) }
 {
-    Accumulator {
-        len: st.len,
-        second: 0,
-        over: st.over,
-    }
+    Accumulator { second: 0, ..st }
 }
 
-// The answer of an expression at its end.
-fn told(e: Ended, here: HirId, cur: Cur) -> Walk
-    ensures { ToldAs e here cur result }
-{
-    match e {
-        Ended::Typed { len, tally } => Walk::Done { len, cur, tally },
-        Ended::Large => Walk::TooLarge(here),
-    }
-}
-
-// The type of an expression below whose line nothing can stand: a variable's, or that of its word.
-pub fn infer_leaf(
-    b: Env,
-    sheet: &[u8],
-    h: Head,
-    cur: Cur,
-    work: &mut [u8],
-    out: &mut [u8],
-    tally: Tally,
-) -> Walk
-    requires { LeafAsk sheet.now b h cur work.old tally }
-    ensures { LeafWalked sheet.now b h cur work.old work.new out.old out.new tally result }
-{
-    let behind = past(cur, h);
-    if h.word == line::VAR {
-        let v = h.var;
-        return Walk::Done {
-            len: exprs::var_type(sheet, b.from, b.to, v, work),
-            cur: behind,
-            tally,
-        };
-    }
-    Walk::Done {
-        len: exprs::constant(h.word, work),
-        cur: behind,
-        tally,
-    }
-}
-
-// The type of the expression whose line is `h`, with `depth` levels left.
-#[cycle(check_pattern_check_tree_infer_expr)]
-pub fn infer_expr(
-    b: Env,
-    sheet: &[u8],
+// The type of an expression whose line is `h`, with `depth` levels left.
+#[cycle(walks)]
+pub fn infer_line(
+    sheet: Sheet<'_>,
     h: Head,
     cur: Cur,
     depth: usize,
     work: &mut [u8],
     out: &mut [u8],
     tally: Tally,
+) -> Result<Walk, TooLarge>
+    requires { ExprAsk sheet.text.now sheet.binds h cur depth work.old tally }
+    ensures { ExprWalked sheet.entry.text.now sheet.entry.binds h cur depth work.old work.new out.old out.new tally result }
+{
+    if is_leaf(h.word) {
+        return Ok(infer_leaf(sheet, h, cur, work, out, tally));
+    }
+    infer_expr(sheet, h, cur, depth, work, out, tally)
+}
+
+// The type of an expression below whose line nothing can stand: a variable's, or that of its word.
+fn infer_leaf(
+    sheet: Sheet<'_>,
+    h: Head,
+    cur: Cur,
+    work: &mut [u8],
+    out: &mut [u8],
+    tally: Tally,
 ) -> Walk
-    requires { ExprAsk sheet.now b h cur depth work.old tally }
-    ensures { ExprWalked sheet.now b h cur depth work.old work.new out.old out.new tally result }
+    requires { LeafAsk sheet.text.now sheet.binds h cur work.old tally }
+    ensures { LeafWalked sheet.entry.text.now sheet.entry.binds h cur work.old work.new out.old out.new tally result }
+{
+    let behind = past(cur, h);
+    let word = h.word;
+    let len = match word {
+        Word::Var => {
+            let v = h.var;
+            exprs::var_type(sheet.text, sheet.binds.from, sheet.binds.to, v, work)
+        }
+        _ => exprs::constant(word, work),
+    };
+    Walk {
+        len,
+        cur: behind,
+        tally,
+    }
+}
+
+// The type of an expression below whose line others may stand.
+#[cycle(walks)]
+fn infer_expr(
+    sheet: Sheet<'_>,
+    h: Head,
+    cur: Cur,
+    depth: usize,
+    work: &mut [u8],
+    out: &mut [u8],
+    tally: Tally,
+) -> Result<Walk, TooLarge>
+    requires { ExprAsk sheet.text.now sheet.binds h cur depth work.old tally }
+    ensures { ExprWalked sheet.entry.text.now sheet.entry.binds h cur depth work.old work.new out.old out.new tally result }
 {
     let here = cur.line;
+    let text = sheet.text;
     let kids = hir::kids_of(h);
     let n = kids.all;
     let rule = rule_of(h.word);
     let mut c = past(cur, h);
     let mut y = tally;
     let mut st = start(rule, work);
-    let mut j = 0;
-    while j < n {
+    for j in 0..n {
         let p = c.at;
-        let k = read_line(sheet, p, true);
+        let k = known_line(sheet.text, p);
         let from = st.len;
-        match check_tree(b, sheet, k, c, depth - 1, &mut work[from..], out, y) {
-            Walk::Done {
-                len,
-                cur: behind,
-                tally: more,
-            } => {
-                let role = role_of(h, j);
-                let a = spelt(k);
-                let z = k.stop;
-                match step(
-                    rule,
-                    role,
-                    before_child(st),
-                    work,
-                    len,
-                    &sheet[a..z],
-                    out,
-                    more,
-                ) {
-                    Stepped::On { st: s, tally: t } => {
-                        st = s;
-                        y = t;
-                        c = behind;
-                    }
-                    Stepped::Large => {
-                        return Walk::TooLarge(here);
-                    }
-                }
-            }
-            Walk::TooLarge(l) => {
-                return Walk::TooLarge(l);
-            }
-        }
-        j += 1;
+        let child = check_tree(sheet, k, c, depth - 1, &mut work[from..], out, y)?;
+        let role = role_of(h, j);
+        let a = spelt(k);
+        let z = k.stop;
+        let stepped = step(
+            rule,
+            role,
+            before_child(st),
+            work,
+            child.len,
+            &text[a..z],
+            out,
+            child.tally,
+        )
+        .ok_or(TooLarge(here))?;
+        st = stepped.st;
+        y = stepped.tally;
+        c = child.cur;
     }
-    told(finish(b, sheet, h, st, work, out, y), here, c)
+    let typed = finish(sheet, h, st, work, out, y).ok_or(TooLarge(here))?;
+    Ok(Walk {
+        len: typed.len,
+        cur: c,
+        tally: typed.tally,
+    })
 }
 
 // A tree inside a clause, whose first line is `k`: of an expression, or of the one that an entry holds, its type.
 // Any other tree is left to `check_pattern`.
-#[cycle(check_pattern_check_tree_infer_expr)]
+#[cycle(walks)]
 fn check_tree(
-    b: Env,
-    sheet: &[u8],
+    sheet: Sheet<'_>,
     k: Head,
     cur: Cur,
     depth: usize,
     work: &mut [u8],
     out: &mut [u8],
     tally: Tally,
-) -> Walk
-    requires { AnyAsk sheet.now b k cur depth work.old tally }
-    ensures { AnyWalked sheet.now b k cur depth work.old work.new out.old out.new tally result }
+) -> Result<Walk, TooLarge>
+    requires { AnyAsk sheet.text.now sheet.binds k cur depth work.old tally }
+    ensures { AnyWalked sheet.entry.text.now sheet.entry.binds k cur depth work.old work.new out.old out.new tally result }
 {
-    let m = entered(sheet, k, cur);
+    let m = entered(sheet.text, k, cur);
     let e = m.head;
-    if class_of(e.word) == line::AT_EXPRESSION {
-        let at = m.cur;
-        if is_leaf(e.word) {
-            return infer_leaf(b, sheet, e, at, work, out, tally);
-        }
-        return infer_expr(b, sheet, e, at, depth, work, out, tally);
+    match place_of(e.word) {
+        Place::Expression => infer_line(sheet, e, m.cur, depth, work, out, tally),
+        _ => check_pattern(sheet, cur, depth, work, out, tally),
     }
-    check_pattern(b, sheet, cur, depth, work, out, tally)
 }
 
 // A tree that is neither an expression nor an entry (a pattern, or an item of a map projection): its expressions are typed and dropped.
-#[cycle(check_pattern_check_tree_infer_expr)]
+#[cycle(walks)]
 fn check_pattern(
-    b: Env,
-    sheet: &[u8],
+    sheet: Sheet<'_>,
     cur: Cur,
     depth: usize,
     work: &mut [u8],
     out: &mut [u8],
     tally: Tally,
-) -> Walk
-    requires { PatternAsk sheet.now b cur depth work.old tally }
-    ensures { PatternWalked sheet.now b cur depth work.old work.new out.old out.new tally result }
+) -> Result<Walk, TooLarge>
+    requires { PatternAsk sheet.text.now sheet.binds cur depth work.old tally }
+    ensures { PatternWalked sheet.entry.text.now sheet.entry.binds cur depth work.old work.new out.old out.new tally result }
 {
     let mut c = cur;
     let mut y = tally;
+    // Counts trees that are still to come, which grow by a line's children: no index.
     let mut todo: usize = 1;
     while todo > 0 {
         let p = c.at;
-        let g = read_line(sheet, p, true);
-        if class_of(g.word) == line::AT_EXPRESSION {
-            let typed = if is_leaf(g.word) {
-                infer_leaf(b, sheet, g, c, work, out, y)
-            } else {
-                infer_expr(b, sheet, g, c, depth, work, out, y)
-            };
-            match typed {
-                Walk::Done {
-                    len: _,
-                    cur: behind,
-                    tally: t,
-                } => {
-                    c = behind;
-                    y = t;
-                    todo -= 1;
-                }
-                Walk::TooLarge(l) => {
-                    return Walk::TooLarge(l);
-                }
+        let g = known_line(sheet.text, p);
+        match place_of(g.word) {
+            Place::Expression => {
+                let typed = infer_line(sheet, g, c, depth, work, out, y)?;
+                c = typed.cur;
+                y = typed.tally;
+                todo -= 1;
             }
-        } else {
-            let kids = hir::kids_of(g);
-            c = past(c, g);
-            todo = todo - 1 + kids.all;
+            _ => {
+                let kids = hir::kids_of(g);
+                c = past(c, g);
+                todo = todo - 1 + kids.all;
+            }
         }
     }
-    work[0] = ty::UNKNOWN;
-    work[1] = text::COMMA;
-    Walk::Done {
-        len: 2,
+    Ok(Walk {
+        len: exprs::put_letter(work, ty::UNKNOWN),
         cur: c,
         tally: y,
-    }
+    })
 }

@@ -7,16 +7,16 @@ use std::io;
 use std::io::Read;
 
 // Reads until the buffer is full or the input ends: how many bytes now stand at its front.
+// (`read_exact` refuses an input that ends before, and `read_to_end` wants a heap.)
 pub fn read_full(input: &mut impl Read, buf: &mut [u8]) -> io::Result<usize>
     ensures { IfOk result (λ n. n ≤ length buf.new) }
 {
     let mut done = 0;
     while done < buf.len() {
-        let n = input.read(&mut buf[done..])?;
-        if n == 0 {
-            break;
+        match input.read(&mut buf[done..])? {
+            0 => break,
+            n => done += n,
         }
-        done += n;
     }
     Ok(done)
 }

@@ -3,23 +3,29 @@ use mathlib.Core.Path.{◌≡◌, refl, sym, ◌∙◌, ap}
 use mathlib.Core.List.{List, [], ◌∷◌, ◌++◌}
 use mathlib.Core.Option.{Option, none, some}
 use mathlib.Core.Bool.{Bool, true, false, ◌&&◌}
-use Prim.Native.Nat.{ℕ, suc, zero, ◌+◌, ◌-◌, ◌*◌, ◌/◌, ◌%◌, ◌≤◌, ◌<◌}
+use Prim.Native.Nat.{ℕ, suc, zero, ◌+◌, ◌-◌, ◌*◌, ◌%◌, ◌≤◌, ◌<◌}
 use native.Mathlib.Omega.{arith}
 use lib.Dec.{eqb, leb}
-use lib.ListN.{length, get_or, length-append}
+use lib.ListN.{length, get_or, replicate, length-append}
 use lib.Seq.{slice}
+use Rattle.std.proofs.lemmas.List.{length-set, get_or-set_same, get_or-set_other}
 use borrow.Author.Tests.{eqb-true, eqb-false, ne_eqb, eq-eqb, leb-true}
 use Rattle.semantics.specs.Limits.{name_limit, variable_limit, bound_limit, signed_shift}
 use Rattle.semantics.specs.Bytes.{Bytes, decimal, unhex}
 use Rattle.semantics.specs.Sheet.{Word, Field, range, variable, optional, name, alias, bound, letter, signed, float, is_dash, Head, Value, wrong, number, variable_v, name_v, alias_v, within, named, lettered, signed_of, float_of, bound_of, value, Read, bad, into, bare}
-use Rattle.line.specs.declared.field.Val.{Val}
+use Rattle.semantics.specs.declared.refusals.Refusal.{Refusal}
+use Rattle.semantics.specs.Refusals.{number_of}
+use Rattle.std.specs.Prelude.{Ok, Err, set}
+use Rattle.line.specs.Words.{field_of}
+use Rattle.line.specs.declared.shapes.Shape.{Shape}
+use Rattle.line.specs.declared.shapes.Shape.TheVariants.{Variable, Optional}
 use Rattle.line.specs.declared.field.Fields.{Fields}
-use Rattle.line.specs.Fields.{field_of, fields_of, clip, val_of, why_of, num_of, value_at, pick_n, pick_f, pushed, nothing_yet, seen_var, seen_name, stored_in, Agrees}
+use Rattle.line.specs.Fields.{clip, or_zero, refusal, val_of, value_at, most_fields, pick_f, pushed, nothing_yet, seen_var, seen_name, stored_in, Agrees}
 
 -- ## What a field can say
 
 pub data Says : Field → Bytes → Value → Type 0 where
-  faulty : {f : Field} {s : Bytes} {c : ℕ} → 0 < c → Says f s (wrong c)
+  faulty : {f : Field} {s : Bytes} {c : ℕ} → number_of (refusal c) ≡ c → Says f s (wrong c)
   in_range : {l m n : ℕ} {s : Bytes} → n ≤ m → Says (range l m) s (number n)
   a_bound : {n : ℕ} {s : Bytes} → n ≤ 18446744073709551616 → Says bound s (number n)
   a_letter : {n : ℕ} {s : Bytes} → n ≤ 3 → Says letter s (number n)
@@ -33,10 +39,10 @@ pub data Says : Field → Bytes → Value → Type 0 where
   no_alias : {s : Bytes} → Says alias s (number 0)
 
 three : {f : Field} {s : Bytes} → Says f s (wrong 3)
-three = faulty {c = 3} (omega arith)
+three = faulty {c = 3} refl
 
 four : {f : Field} {s : Bytes} → Says f s (wrong 4)
-four = faulty {c = 4} (omega arith)
+four = faulty {c = 4} refl
 
 within-says : (f : Field) (s : Bytes) (l m : ℕ) (o : Option ℕ) (g : ℕ → Value) → ((n : ℕ) → l ≤ n → n ≤ m → Says f s (g n)) → Says f s (within l m o g)
 unfolding within
@@ -157,51 +163,50 @@ absorbed h (variable_v v) = record { word = h.word; var = v; nums = h.nums; name
 absorbed h (name_v s) = record { word = h.word; var = h.var; nums = h.nums; name = s }
 absorbed h (alias_v s) = record { word = h.word; var = h.var; nums = h.nums ++ (1 ∷ []); name = s }
 
-pub into-on : (h : Head) (v : Value) (g : Head → Read) {f : Field} {s : Bytes} → Says f s v → why_of v ≡ 0 → into h v g ≡ g (absorbed h v)
+-- what was read of a field: its number, or what it is refused for
+pub into-on : (h : Head) (v : Value) (g : Head → Read) {f : Field} {s : Bytes} (n : ℕ) → Says f s v → Ok n ≡ val_of v → into h v g ≡ g (absorbed h v)
 unfolding absorbed
-into-on h (wrong c) g (faulty p) e = absurd (omega arith)
-into-on h (number n) g p e = refl
-into-on h (variable_v v) g p e = refl
-into-on h (name_v s) g p e = refl
-into-on h (alias_v s) g p e = refl
+into-on h (wrong c) g n p e = absurd (let z : ⊥ = cc in z)
+into-on h (number n) g m p e = refl
+into-on h (variable_v v) g m p e = refl
+into-on h (name_v s) g m p e = refl
+into-on h (alias_v s) g m p e = refl
 
-pub into-stop : (h : Head) (v : Value) (g : Head → Read) → (why_of v ≡ 0 → ⊥) → into h v g ≡ bad (why_of v)
-into-stop h (wrong c) g e = refl
-into-stop h (number n) g e = absurd (e refl)
-into-stop h (variable_v v) g e = absurd (e refl)
-into-stop h (name_v s) g e = absurd (e refl)
-into-stop h (alias_v s) g e = absurd (e refl)
+pub into-stop : (h : Head) (v : Value) (g : Head → Read) {f : Field} {s : Bytes} (why : Refusal) → Says f s v → Err why ≡ val_of v → (c : ℕ) × (into h v g ≡ bad c) × (number_of why ≡ c)
+into-stop h (wrong c) g why (faulty p) e = let z : why ≡ refusal c = cc in (c, refl, ap number_of z ∙ p)
+into-stop h (number n) g why p e = absurd (let z : ⊥ = cc in z)
+into-stop h (variable_v v) g why p e = absurd (let z : ⊥ = cc in z)
+into-stop h (name_v s) g why p e = absurd (let z : ⊥ = cc in z)
+into-stop h (alias_v s) g why p e = absurd (let z : ⊥ = cc in z)
 
-pub small-variable : (l : ℕ) (s : Bytes) (k : ℕ) → k ≡ 7 → num_of (value_at (field_of k) l s) < 4294967296
-unfolding field_of
-small-variable l s k e = rw e (go _ (says variable l s))
-  where
-    go : (v : Value) → Says variable s v → num_of v < 4294967296
-    go (wrong c) (faulty p) = omega arith
-    go (variable_v (some v)) (a_variable p) = omega arith
-    go (number _) x'' = elim x'' [ ]
-    go (variable_v none) x4 = elim x4 [ ]
-    go (name_v _) x4 = elim x4 [ ]
-    go (alias_v _) x5 = elim x5 [ ]
+small-variable : (v : Value) (s : Bytes) (n : ℕ) → Says variable s v → Ok n ≡ val_of v → n < 4294967296
+small-variable (wrong c) s n p e = absurd (let z : ⊥ = cc in z)
+small-variable (variable_v (some v)) s n (a_variable p) e = let z : n ≡ v = cc in omega arith
+small-variable (number _) s n x e = elim x [ ]
+small-variable (variable_v none) s n x e = elim x [ ]
+small-variable (name_v _) s n x e = elim x [ ]
+small-variable (alias_v _) s n x e = elim x [ ]
 
-pub small-optional : (l : ℕ) (s : Bytes) (k : ℕ) → k ≡ 8 → num_of (value_at (field_of k) l s) < 4294967296
-unfolding field_of
-small-optional l s k e = rw e (go _ (says optional l s))
-  where
-    go : (v : Value) → Says optional s v → num_of v < 4294967296
-    go (wrong c) (faulty p) = omega arith
-    go (variable_v (some v)) (some_variable p) = omega arith
-    go (variable_v none) no_variable = omega arith
-    go (number _) x'' = elim x'' [ ]
-    go (name_v _) x3 = elim x3 [ ]
-    go (alias_v _) x4 = elim x4 [ ]
+small-optional : (v : Value) (s : Bytes) (n : ℕ) → Says optional s v → Ok n ≡ val_of v → n < 4294967296
+small-optional (wrong c) s n p e = absurd (let z : ⊥ = cc in z)
+small-optional (variable_v (some v)) s n (some_variable p) e = let z : n ≡ v = cc in omega arith
+small-optional (variable_v none) s n no_variable e = let z : n ≡ 0 = cc in omega arith
+small-optional (number _) s n x e = elim x [ ]
+small-optional (name_v _) s n x e = elim x [ ]
+small-optional (alias_v _) s n x e = elim x [ ]
+
+-- what `store` asks
+pub store-small : (k : Shape) (l n : ℕ) (s : Bytes) → Ok n ≡ val_of (value_at (field_of k) l s) → (k ≡ Variable → n < 4294967296) × (k ≡ Optional → n < 4294967296)
+store-small k l n s e = (λ d. small-variable _ s n (says variable l s) (rw d at e), λ d. small-optional _ s n (says optional l s) (rw d at e))
+
+-- ## What is kept
 
 -- one number more
-pub get_d_push : (ns : List ℕ) (n i : ℕ) → get_or (ns ++ (n ∷ [])) i 0 ≡ pick_n (eqb (length ns) i) n (get_or ns i 0)
+get_d_push : (ns : List ℕ) (n i : ℕ) → get_or (ns ++ (n ∷ [])) i 0 ≡ elim (eqb (length ns) i) [ true ↦ n | false ↦ get_or ns i 0 ]
 get_d_push [] n zero = refl
 get_d_push [] n (suc i) = rw (ne_eqb 0 (suc i) (λ e. omega arith))
 get_d_push (m ∷ ns) n zero = rw (ne_eqb (suc (length ns)) 0 (λ e. omega arith))
-get_d_push (m ∷ ns) n (suc i) = get_d_push ns n i ∙ ap (λ (b : Bool). pick_n b n (get_or ns i 0)) (same (length ns) i)
+get_d_push (m ∷ ns) n (suc i) = get_d_push ns n i ∙ ap (λ (b : Bool). elim b as (λ _. ℕ) [ true ↦ n | false ↦ get_or ns i 0 ]) (same (length ns) i)
   where
     same : (a b : ℕ) → eqb a b ≡ eqb (suc a) (suc b)
     same a b = go (eqb a b) refl
@@ -210,96 +215,120 @@ get_d_push (m ∷ ns) n (suc i) = get_d_push ns n i ∙ ap (λ (b : Bool). pick_
         go true e = sym (eq-eqb (suc a) (suc b) (ap suc (eqb-true a b e)))
         go false e = sym (ne_eqb (suc a) (suc b) (λ d. eqb-false a b e (omega arith)))
 
-clip-pick : (b : Bool) (n m : ℕ) → pick_n b (clip n) (clip m) ≡ clip (pick_n b n m)
-clip-pick true n m = refl
-clip-pick false n m = refl
-
--- a slot after one number more
-slot : (ns : List ℕ) (n i put old : ℕ) → put ≡ length ns → old ≡ clip (get_or ns i 0) → pick_n (eqb put i) (clip n) old ≡ clip (get_or (ns ++ (n ∷ [])) i 0)
-slot ns n i put old p o = rw (p, o, get_d_push ns n i) (clip-pick (eqb (length ns) i) n (get_or ns i 0))
+slot : (xs ns : List ℕ) (n put : ℕ) → put ≡ length ns → put < length xs → ((i : ℕ) → get_or xs i 0 ≡ clip (get_or ns i 0)) → (i : ℕ) → get_or (set xs put (clip n)) i 0 ≡ clip (get_or (ns ++ (n ∷ [])) i 0)
+slot xs ns n put p l o i = go (eqb (length ns) i) refl
+  where
+    go : (b : Bool) → eqb (length ns) i ≡ b → get_or (set xs put (clip n)) i 0 ≡ clip (get_or (ns ++ (n ∷ [])) i 0)
+    go true e =
+        let q : put ≡ i = p ∙ eqb-true (length ns) i e in
+        let l' : i < length xs = omega arith in
+        rw q (get_or-set_same xs i (clip n) 0 l' ∙ ap clip (sym (get_d_push ns n i ∙ rw e)))
+    go false e =
+        let q : i ≡ put → ⊥ = λ d. eqb-false (length ns) i e (omega arith) in
+        get_or-set_other xs put i (clip n) 0 q ∙ o i ∙ ap clip (sym (get_d_push ns n i ∙ rw e))
 
 push-length : (ns : List ℕ) (n put : ℕ) → put ≡ length ns → put + 1 ≡ length (ns ++ (n ∷ []))
 push-length ns n put p = omega (arith, length-append ns (n ∷ []))
 
-module _ (s : Bytes) (k : ℕ) (f : Fields) (h : Head) (a : Agrees s k f h) where
-  pub agrees-push : (n : ℕ) → Agrees s k (pushed f k (clip n)) (absorbed h (number n))
+module _ (s : Bytes) (f : Fields) (h : Head) (a : Agrees s f h) (room : f.put < most_fields) where
+  agrees-push : (n : ℕ) → Agrees s (pushed f (clip n)) (absorbed h (number n))
   unfolding absorbed
   agrees-push n =
       record {
         var = a.var;
-        num = slot h.nums n 0 f.put f.num a.put a.num;
-        second = slot h.nums n 1 f.put f.second a.put a.second;
-        flag = slot h.nums n (k % 8) f.put f.flag a.put a.flag;
-        count = slot h.nums n (k / 8) f.put f.count a.put a.count;
+        nums = slot f.nums h.nums n f.put a.put (omega (arith, a.room)) a.nums;
         put = push-length h.nums n f.put a.put;
+        room = length-set f.nums f.put (clip n) ∙ a.room;
         name = a.name;
         within = a.within;
       }
 
-  pub agrees-var : (v : Option ℕ) → Agrees s k (seen_var f (Rattle.line.specs.Fields.or_zero v)) (absorbed h (variable_v v))
+  agrees-var : (v : Option ℕ) → Agrees s (seen_var f (or_zero v)) (absorbed h (variable_v v))
   unfolding absorbed
-  agrees-var v = record { var = go v; num = a.num; second = a.second; flag = a.flag; count = a.count; put = a.put; name = a.name; within = a.within }
+  agrees-var v = record { var = go v; nums = a.nums; put = a.put; room = a.room; name = a.name; within = a.within }
     where
-      go : (v : Option ℕ) → Rattle.line.specs.Fields.or_zero v ≡ elim v [ none ↦ 0 | some v ↦ v ]
+      go : (v : Option ℕ) → or_zero v ≡ elim v [ none ↦ 0 | some v ↦ v ]
       go none = refl
       go (some v) = refl
 
-  pub agrees-name : (p q : ℕ) → q ≤ length s → (ds : Bytes) → unhex (slice p q s) ≡ some ds → Agrees s k (seen_name f p q) (absorbed h (name_v ds))
+  agrees-name : (p q : ℕ) → q ≤ length s → (ds : Bytes) → unhex (slice p q s) ≡ some ds → Agrees s (seen_name f p q) (absorbed h (name_v ds))
   unfolding absorbed
-  agrees-name p q w ds e = record { var = a.var; num = a.num; second = a.second; flag = a.flag; count = a.count; put = a.put; name = e; within = w }
+  agrees-name p q w ds e = record { var = a.var; nums = a.nums; put = a.put; room = a.room; name = e; within = w }
 
-  pub agrees-alias : (p q : ℕ) → q ≤ length s → (ds : Bytes) → unhex (slice p q s) ≡ some ds → Agrees s k (seen_name (pushed f k 1) p q) (absorbed h (alias_v ds))
+  agrees-alias : (p q : ℕ) → q ≤ length s → (ds : Bytes) → unhex (slice p q s) ≡ some ds → Agrees s (seen_name (pushed f 1) p q) (absorbed h (alias_v ds))
   unfolding absorbed
   agrees-alias p q w ds e =
       let b = agrees-push 1 in
-      record { var = b.var; num = b.num; second = b.second; flag = b.flag; count = b.count; put = b.put; name = e; within = w }
+      record { var = b.var; nums = b.nums; put = b.put; room = b.room; name = e; within = w }
 
-  pub agrees_on : (p q : ℕ) → q ≤ length s → (g : Field) (v : Value) → Says g (slice p q s) v → why_of v ≡ 0 → Agrees s k (stored_in g f k p q (num_of v)) (absorbed h v)
+  on : (p q : ℕ) → q ≤ length s → (g : Field) (v : Value) (n : ℕ) → Says g (slice p q s) v → Ok n ≡ val_of v → Agrees s (stored_in g f p q n) (absorbed h v)
   unfolding stored_in
-  agrees_on p q w g (wrong c) (faulty i) e = absurd (omega arith)
-  agrees_on p q w (range l m) (number n) (in_range i) e = agrees-push n
-  agrees_on p q w bound (number n) (a_bound i) e = agrees-push n
-  agrees_on p q w letter (number n) (a_letter i) e = agrees-push n
-  agrees_on p q w signed (number n) (a_signed i) e = agrees-push n
-  agrees_on p q w variable (variable_v (some v)) (a_variable i) e = agrees-var (some v)
-  agrees_on p q w optional (variable_v (some v)) (some_variable i) e = agrees-var (some v)
-  agrees_on p q w optional (variable_v none) no_variable e = agrees-var none
-  agrees_on p q w name (name_v ds) (a_name i) e = agrees-name p q w ds i
-  agrees_on p q w float (name_v ds) (a_float i) e = agrees-name p q w ds i
-  agrees_on p q w alias (alias_v ds) (an_alias i) e = agrees-alias p q w ds i
-  agrees_on p q w alias (number n) no_alias e = agrees-push 0
-  agrees_on p q w variable (number n) x3 e = elim x3 [ ]
-  agrees_on p q w optional (number n) x4 e = elim x4 [ ]
-  agrees_on p q w name (number n) x5 e = elim x5 [ ]
-  agrees_on p q w float (number n) x6 e = elim x6 [ ]
-  agrees_on p q w (range l m) (variable_v _) x6 e = elim x6 [ ]
-  agrees_on p q w variable (variable_v none) x8 e = elim x8 [ ]
-  agrees_on p q w name (variable_v _) x8 e = elim x8 [ ]
-  agrees_on p q w alias (variable_v _) x9 e = elim x9 [ ]
-  agrees_on p q w bound (variable_v _) x10 e = elim x10 [ ]
-  agrees_on p q w letter (variable_v _) x11 e = elim x11 [ ]
-  agrees_on p q w signed (variable_v _) x12 e = elim x12 [ ]
-  agrees_on p q w float (variable_v _) x13 e = elim x13 [ ]
-  agrees_on p q w (range l m) (name_v ds) x5 e = elim x5 [ ]
-  agrees_on p q w variable (name_v ds) x6 e = elim x6 [ ]
-  agrees_on p q w optional (name_v ds) x7 e = elim x7 [ ]
-  agrees_on p q w alias (name_v ds) x8 e = elim x8 [ ]
-  agrees_on p q w bound (name_v ds) x9 e = elim x9 [ ]
-  agrees_on p q w letter (name_v ds) x10 e = elim x10 [ ]
-  agrees_on p q w signed (name_v ds) x11 e = elim x11 [ ]
-  agrees_on p q w (range l m) (alias_v ds) x6 e = elim x6 [ ]
-  agrees_on p q w variable (alias_v ds) x7 e = elim x7 [ ]
-  agrees_on p q w optional (alias_v ds) x8 e = elim x8 [ ]
-  agrees_on p q w name (alias_v ds) x9 e = elim x9 [ ]
-  agrees_on p q w bound (alias_v ds) x10 e = elim x10 [ ]
-  agrees_on p q w letter (alias_v ds) x11 e = elim x11 [ ]
-  agrees_on p q w signed (alias_v ds) x12 e = elim x12 [ ]
-  agrees_on p q w float (alias_v ds) x13 e = elim x13 [ ]
+  on p q w g (wrong c) n i e = absurd (let z : ⊥ = cc in z)
+  on p q w (range l m) (number n) k (in_range i) e = let z : k ≡ clip n = cc in rw z (agrees-push n)
+  on p q w bound (number n) k (a_bound i) e = let z : k ≡ clip n = cc in rw z (agrees-push n)
+  on p q w letter (number n) k (a_letter i) e = let z : k ≡ clip n = cc in rw z (agrees-push n)
+  on p q w signed (number n) k (a_signed i) e = let z : k ≡ clip n = cc in rw z (agrees-push n)
+  on p q w variable (variable_v (some v)) k (a_variable i) e = let z : k ≡ v = cc in rw z (agrees-var (some v))
+  on p q w optional (variable_v (some v)) k (some_variable i) e = let z : k ≡ v = cc in rw z (agrees-var (some v))
+  on p q w optional (variable_v none) k no_variable e = let z : k ≡ 0 = cc in rw z (agrees-var none)
+  on p q w name (name_v ds) k (a_name i) e = agrees-name p q w ds i
+  on p q w float (name_v ds) k (a_float i) e = agrees-name p q w ds i
+  on p q w alias (alias_v ds) k (an_alias i) e = let z : k ≡ 1 = cc in rw z (agrees-alias p q w ds i)
+  on p q w alias (number n) k no_alias e = let z : k ≡ 0 = cc in rw z (agrees-push 0)
+  on p q w variable (number n) k x e = elim x [ ]
+  on p q w optional (number n) k x e = elim x [ ]
+  on p q w name (number n) k x e = elim x [ ]
+  on p q w float (number n) k x e = elim x [ ]
+  on p q w (range l m) (variable_v _) k x e = elim x [ ]
+  on p q w variable (variable_v none) k x e = elim x [ ]
+  on p q w name (variable_v _) k x e = elim x [ ]
+  on p q w alias (variable_v _) k x e = elim x [ ]
+  on p q w bound (variable_v _) k x e = elim x [ ]
+  on p q w letter (variable_v _) k x e = elim x [ ]
+  on p q w signed (variable_v _) k x e = elim x [ ]
+  on p q w float (variable_v _) k x e = elim x [ ]
+  on p q w (range l m) (name_v ds) k x e = elim x [ ]
+  on p q w variable (name_v ds) k x e = elim x [ ]
+  on p q w optional (name_v ds) k x e = elim x [ ]
+  on p q w alias (name_v ds) k x e = elim x [ ]
+  on p q w bound (name_v ds) k x e = elim x [ ]
+  on p q w letter (name_v ds) k x e = elim x [ ]
+  on p q w signed (name_v ds) k x e = elim x [ ]
+  on p q w (range l m) (alias_v ds) k x e = elim x [ ]
+  on p q w variable (alias_v ds) k x e = elim x [ ]
+  on p q w optional (alias_v ds) k x e = elim x [ ]
+  on p q w name (alias_v ds) k x e = elim x [ ]
+  on p q w bound (alias_v ds) k x e = elim x [ ]
+  on p q w letter (alias_v ds) k x e = elim x [ ]
+  on p q w signed (alias_v ds) k x e = elim x [ ]
+  on p q w float (alias_v ds) k x e = elim x [ ]
 
-pub agrees_start : (s : Bytes) (k : ℕ) (v : Word) → Agrees s k nothing_yet (bare v)
+pub agrees_on : (s : Bytes) (f : Fields) (h : Head) → Agrees s f h → f.put < most_fields → (p q : ℕ) → q ≤ length s → (g : Field) (v : Value) (n : ℕ)
+    → Says g (slice p q s) v → Ok n ≡ val_of v → Agrees s (stored_in g f p q n) (absorbed h v)
+agrees_on s f h a room p q w g v n i e = on s f h a room p q w g v n i e
+
+zeros : (k i : ℕ) → get_or {A = ℕ} (replicate k 0) i 0 ≡ 0
+zeros zero i = refl
+zeros (suc k) zero = refl
+zeros (suc k) (suc i) = zeros k i
+
+pub agrees_start : (s : Bytes) (v : Word) → Agrees s nothing_yet (bare v)
 unfolding unhex
-agrees_start s k v = record { var = refl; num = refl; second = refl; flag = refl; count = refl; put = refl; name = refl; within = omega arith }
+agrees_start s v = record { var = refl; nums = zeros 7; put = refl; room = refl; name = refl; within = omega arith }
 
--- what `store` asks
-pub store-small : (r : Val) (k l : ℕ) (s : Bytes) → r ≡ val_of (value_at (field_of k) l s) → (k ≡ 7 → r.n < 4294967296) × (k ≡ 8 → r.n < 4294967296)
-store-small r k l s e = (λ d. rw e (small-variable l s k d), λ d. rw e (small-optional l s k d))
+-- one number more at most
+put-alias : (b : Bool) (f g : Fields) (m : ℕ) → f.put ≤ m → g.put ≤ m → (pick_f b f g).put ≤ m
+put-alias true f g m p q = p
+put-alias false f g m p q = q
+
+pub put_on : (g : Field) (f : Fields) (p q n : ℕ) → (stored_in g f p q n).put ≤ f.put + 1
+unfolding stored_in
+put_on (range a b) f p q n = omega arith
+put_on variable f p q n = omega arith
+put_on optional f p q n = omega arith
+put_on name f p q n = omega arith
+put_on alias f p q n = put-alias (eqb n 1) _ _ (f.put + 1) (omega arith) (omega arith)
+put_on bound f p q n = omega arith
+put_on letter f p q n = omega arith
+put_on signed f p q n = omega arith
+put_on float f p q n = omega arith

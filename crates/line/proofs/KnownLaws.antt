@@ -21,8 +21,11 @@ use Rattle.text.proofs.Laws.{slice-take}
 use Rattle.text.proofs.Words.{ends, index-first, number-on, number-off, number-end, digit-range}
 use Rattle.line.specs.declared.in_place.Got.{Got}
 use Rattle.line.specs.declared.known.Bound.{Bound}
-use Rattle.line.specs.Line.{known, word_says, pieces_say, line_says, pieces}
-use Rattle.line.specs.Known.{LineAt, FineAt, DigitsAt, DigitsAs, BindingAt, BoundAs}
+use Rattle.std.specs.Prelude.{Result, Ok, Err}
+use Rattle.line.specs.declared.line.Head.{Head as Seen}
+use Rattle.line.specs.declared.line.BadLine.{BadLine}
+use Rattle.line.specs.Line.{known, word_says, pieces_say, line_says, pieces, HeadIs, SaysAs, ReadAs, next_of}
+use Rattle.line.specs.Known.{LineAt, KnownAs, DigitsAt, DigitsAs, BindingAt, BoundAs}
 use Rattle.line.proofs.FillLaws.{Says, faulty, a_letter, lettered-says}
 use Rattle.line.proofs.QuickFields.{first_of}
 use Rattle.line.proofs.LineLaws.{split-some, pieces-in, pieces-past, pieces_step}
@@ -139,10 +142,6 @@ spelled-in x (w ∷ vs) v e = go (same x (text (row w).spelled)) refl e (spelled
     go : (b : Bool) → same x (text (row w).spelled) ≡ b → elim b [ true ↦ some w | false ↦ word_in x vs ] ≡ some v → (word_in x vs ≡ some v → x ≡ text (row v).spelled) → x ≡ text (row v).spelled
     go true d f ih = let i : w ≡ v = cc in same-eq d ∙ ap (λ (u : Word). text (row u).spelled) i
     go false d f ih = ih f
-
--- nothing is claimed of a line that is read for the first time
-pub not-fine : {s : Bytes} {at : ℕ} → false ≡ true → FineAt s at
-not-fine e = absurd (let z : ◌≡◌ {A = ℕ} 0 1 = cc in omega arith)
 
 -- ## Where a line and its pieces stand
 
@@ -372,19 +371,25 @@ binding-says s at b g f r e v =
     let d = f (binding_digits s at b) in
     record { var = v ∙ d.1 ∙ sym w.var; next = omega (arith, e, d.0, w.next); kind = ap (λ (j : ℕ). lettered (get_or s (j + 1) 0 ∷ [])) (e ∙ d.0) ∙ w.kind }
 
--- ## The letter of a kind
+-- ## What is read of a line that is fine
 
-pub kind-is : (c d k n : ℕ) → c ≡ d → lettered (d ∷ []) ≡ number k → lettered (c ∷ []) ≡ number n → k ≡ n
-kind-is c d k n e f g = let z : number k ≡ number n = sym f ∙ ap (λ (j : ℕ). lettered (j ∷ [])) (sym e) ∙ g in cc
-
-pub kind-other : (c n : ℕ) → (c ≡ 78 → ⊥) → (c ≡ 82 → ⊥) → (c ≡ 80 → ⊥) → lettered (c ∷ []) ≡ number n → 3 ≡ n
-unfolding lettered
-kind-other c n x y z e = go (eqb c 78) refl (eqb c 82) refl (eqb c 80) refl (eqb c 86) e
+-- nothing else than what it says
+pub read_at : (s : Bytes) (at : ℕ) (r : Result Seen BadLine) → ReadAs s at r (split 10 (drop at s)) → (h : Head) (q : ℕ) → LineAt s at h q
+    → (k : Seen) × (r ≡ Ok k) × (k.next ≡ q) × HeadIs s k h
+read_at s at r x h q a = go (split 10 (drop q s)) refl (split-some 10 (drop q s)) (rw a.stands at x)
   where
-    go : (p : Bool) → eqb c 78 ≡ p → (q : Bool) → eqb c 82 ≡ q → (r : Bool) → eqb c 80 ≡ r → (t : Bool)
-        → elim p [ true ↦ number 0 | false ↦ elim q [ true ↦ number 1 | false ↦ elim r [ true ↦ number 2 | false ↦ elim t [ true ↦ number 3 | false ↦ wrong 3 ] ] ] ] ≡ number n → 3 ≡ n
-    go true p q d r f t g = absurd (x (eqb-true c 78 p))
-    go false p true d r f t g = absurd (y (eqb-true c 82 d))
-    go false p false d true f t g = absurd (z (eqb-true c 80 f))
-    go false p false d false f true g = cc
-    go false p false d false f false g = absurd (let j : ◌≡◌ {A = ℕ} 0 1 = cc in omega arith)
+    told : (r : Result Seen BadLine) → split 10 (drop q s) ≡ split 10 (drop (next_of r) s) → next_of r ≤ length s → SaysAs s r (known h.word (ok h))
+        → (k : Seen) × (r ≡ Ok k) × (k.next ≡ q) × HeadIs s k h
+    told (Ok k) e w y = (k, refl, same_place s k.next q w a.inside (sym e), y.1)
+    told (Err b) e w y = elim y [ ]
+
+    go : (ms : List Bytes) → split 10 (drop q s) ≡ ms → 0 < length ms → ReadAs s at r (a.text ∷ ms) → (k : Seen) × (r ≡ Ok k) × (k.next ≡ q) × HeadIs s k h
+    go [] d l y = absurd (omega arith)
+    go (m ∷ ms) d l y = told r (d ∙ y.0) y.2 (rw a.says at y.3)
+
+pub known_at : (s : Bytes) (at : ℕ) (k : Seen) → ReadAs s at (Ok k) (split 10 (drop at s)) → KnownAs s at k
+known_at s at k x h q a =
+    let w = read_at s at (Ok k) x h q a in
+    let z : w.0 ≡ k = cc in
+    let t : (w.0.next ≡ q) × HeadIs s w.0 h = (w.2, w.3) in
+    rw z at t

@@ -1,12 +1,10 @@
-pub mod Words
-pub mod FieldLaws
-pub mod Rows
 pub mod ValueLaws
+pub mod WordLaws
+pub mod RowLaws
 pub mod FillLaws
-pub mod QuickFields
 pub mod LineLaws
 pub mod ReadLaws
-pub mod Tables
+pub mod QuickFields
 pub mod QuickLaws
 pub mod KnownLaws
 pub mod KnownFields

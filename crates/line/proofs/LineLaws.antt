@@ -2,22 +2,27 @@
 use mathlib.Core.Path.{◌≡◌, refl, sym, ◌∙◌, ap}
 use mathlib.Core.List.{List, [], ◌∷◌}
 use mathlib.Core.Bool.{Bool, true, false}
-use Prim.Native.Nat.{ℕ, suc, ◌+◌, ◌-◌, ◌*◌, ◌/◌, ◌%◌, ◌≤◌, ◌<◌}
+use Prim.Native.Nat.{ℕ, suc, ◌+◌, ◌-◌, ◌*◌, ◌≤◌, ◌<◌}
 use native.Mathlib.Decide.{dec_lt}
 use native.Mathlib.Numerals.{add-one}
 use native.Mathlib.Omega.{arith}
 use lib.Dec.{eqb}
-use lib.ListN.{length, get_or, take, drop, drop_of_length-le}
-use lib.Seq.{slice, drop-cons}
-use borrow.Author.Tests.{ne_eqb, eq-eqb, le-leb, lt-leb, lt-ltb, le-ltb}
+use lib.ListN.{length, get_or, take, drop, length-drop, drop_of_length-le}
+use Rattle.std.proofs.lemmas.List.Sums.{sum_by-cons}
+use lib.Seq.{slice, drop-cons, take_all}
+use borrow.Author.Tests.{le-leb, lt-leb, lt-ltb, le-ltb}
 use Rattle.semantics.specs.Bytes.{Bytes, front, split}
-use Rattle.semantics.specs.Sheet.{Word, null_word, Head, Field, range, variable, optional, name, alias, bound, letter, signed, float, Value, Read, ok, into, fill, bare}
-use Rattle.line.specs.declared.field.Val.{Val}
+use Rattle.semantics.specs.Sheet.{Word, Head, Value, Read, ok, into, fill, bare}
+use Rattle.std.specs.Prelude.{map, cond, ◌==◌, count_by, Ok, Err}
+use Rattle.semantics.specs.declared.refusals.Refusal.{Refusal}
+use Rattle.line.specs.Words.{field_of}
+use Rattle.line.specs.declared.shapes.Shape.{Shape}
+use Rattle.line.specs.declared.shapes.Shape.TheVariants.{Range}
 use Rattle.line.specs.declared.field.Fields.{Fields}
 use Rattle.line.specs.Rows.{code_from}
-use Rattle.line.specs.Fields.{field_of, fields_of, clip, val_of, why_of, num_of, value_at, nothing_yet, stored_in, Agrees}
+use Rattle.line.specs.Fields.{val_of, value_at, most_fields, nothing_yet, stored_in, Agrees}
 use Rattle.line.specs.Line.{pieces, FilledAs}
-use Rattle.line.proofs.FillLaws.{says, value-at, absorbed, into-on, into-stop, agrees_on, agrees_start}
+use Rattle.line.proofs.FillLaws.{says, value-at, absorbed, into-on, into-stop, agrees_on, agrees_start, put_on}
 use Rattle.text.specs.Text.{Ends}
 use Rattle.text.proofs.Laws.{part_slice}
 
@@ -52,18 +57,15 @@ split-some c (x ∷ s) = go (split-some c s) (eqb x c)
     go ih true = omega arith
     go ih false = rw (length_front x (split c s) ih) ih
 
-module _ (s : Bytes) (i : ℕ) where
-  pub comma-hit : i < length s → get_or s i 0 ≡ 44 → length (split 44 (drop i s)) ≡ suc (length (split 44 (drop (i + 1) s)))
-  unfolding split
-  comma-hit h e = rw (drop-cons s i 0 h, eq-eqb (get_or s i 0) 44 e, add-one, split)
-
-  pub comma-miss : i < length s → (get_or s i 0 ≡ 44 → ⊥) → length (split 44 (drop i s)) ≡ length (split 44 (drop (i + 1) s))
-  unfolding split
-  comma-miss h e = rw (drop-cons s i 0 h, ne_eqb (get_or s i 0) 44 e, add-one, split) (length_front (get_or s i 0) (split 44 (drop (suc i) s)) (split-some 44 (drop (suc i) s)))
-
-  pub comma-end : length s ≤ i → length (split 44 (drop i s)) ≡ 1
-  unfolding split
-  comma-end h = rw (drop_of_length-le s h)
+-- a piece more than there are commas
+pub split-count : (s : Bytes) → suc (count_by (λ b. b == 44) s) ≡ length (split 44 s)
+unfolding split
+split-count [] = refl
+split-count (x ∷ s) = ap suc (sum_by-cons (λ b. cond (b == 44) 1 0) x s) ∙ go (split-count s) (eqb x 44)
+  where
+    go : suc (count_by (λ b. b == 44) s) ≡ length (split 44 s) → (b : Bool) → suc (cond b 1 0 + count_by (λ b. b == 44) s) ≡ length {A = Bytes} (elim b [ true ↦ [] ∷ split 44 s | false ↦ front x (split 44 s) ])
+    go ih true = omega (arith, ih)
+    go ih false = omega (arith, ih, length_front x (split 44 s) (split-some 44 s))
 
 -- ## The pieces
 
@@ -92,122 +94,102 @@ inside s p m e h = go (dec_lt (length s) p)
 
 -- ## The fields
 
--- j of the n fields were read: what they say is the head, and what is kept of them agrees
-pub record FillAt (s : Bytes) (k from n shapes : ℕ) (f : Fields) (p rest j : ℕ) (v : Word) : Type 0 where
+-- one shape more of a list
+abbrev pub shape_at : List Shape → ℕ → Shape
+shape_at fs j = get_or fs j (Range 0 0)
+
+pub drop-more : (fs : List Shape) (j : ℕ) (k : Shape) → j < length fs → k ≡ shape_at fs j → drop j fs ≡ k ∷ drop (j + 1) fs
+drop-more fs j k h e = drop-cons fs j (Range 0 0) h ∙ rw (e, add-one)
+
+-- j of the fields were read: what they say is the head, and what is kept of them agrees
+pub record FillAt (s : Bytes) (from : ℕ) (fs : List Shape) (f : Fields) (p j : ℕ) (v : Word) : Type 0 where
   pub head : Head
-  pub same : fill (bare v) (fields_of n shapes) (pieces s from) ≡ fill head (fields_of (n - j) rest) (pieces s p)
-  pub agrees : Agrees s k f head
-  pub few : f.put ≤ j
+  pub same : fill (bare v) (map field_of fs) (pieces s from) ≡ fill head (map field_of (drop j fs)) (pieces s p)
+  pub agrees : Agrees s f head
 
-pub record FillInv (s : Bytes) (k from n shapes : ℕ) (f : Fields) (p rest j : ℕ) : Type 0 where
-  pub upto : j ≤ n
-  pub small : n < 32
-  pub many : length (pieces s p) ≡ n - j
+pub record FillInv (s : Bytes) (from : ℕ) (fs : List Shape) (f : Fields) (p j : ℕ) : Type 0 where
+  pub upto : j ≤ length fs
+  pub small : length fs ≤ most_fields
+  pub many : length (pieces s p) ≡ length fs - j
   pub put : f.put ≤ j
-  pub for : (v : Word) → FillAt s k from n shapes f p rest j v
+  pub for : (v : Word) → FillAt s from fs f p j v
 
-pub fill_start : (s : Bytes) (k from n shapes : ℕ) (f : Fields) → f ≡ nothing_yet → length (pieces s from) ≡ n → n < 32 → FillInv s k from n shapes f from shapes 0
-fill_start s k from n shapes f e l small =
-    let z : n - 0 ≡ n = omega arith in
-    rw e (record {
-      upto = omega arith;
-      small = small;
-      many = omega arith;
-      put = omega arith;
-      for = λ v. record { head = bare v; same = rw z; agrees = agrees_start s k v; few = omega arith };
-    })
-
-put-alias : (b : Bool) (f g : Fields) (m : ℕ) → f.put ≤ m → g.put ≤ m → (Rattle.line.specs.Fields.pick_f b f g).put ≤ m
-put-alias true f g m p q = p
-put-alias false f g m p q = q
-
-put_on : (g : Field) (f : Fields) (k p q n : ℕ) → (stored_in g f k p q n).put ≤ f.put + 1
-unfolding stored_in
-put_on (range a b) f k p q n = omega arith
-put_on variable f k p q n = omega arith
-put_on optional f k p q n = omega arith
-put_on name f k p q n = omega arith
-put_on alias f k p q n = put-alias (eqb n 1) _ _ (f.put + 1) (omega arith) (omega arith)
-put_on bound f k p q n = omega arith
-put_on letter f k p q n = omega arith
-put_on signed f k p q n = omega arith
-put_on float f k p q n = omega arith
+pub fill_start : (s : Bytes) (from : ℕ) (fs : List Shape) (f : Fields) → f ≡ nothing_yet → length (pieces s from) ≡ length fs → length fs ≤ most_fields → FillInv s from fs f from 0
+fill_start s from fs f e l small =
+    rw e (record { upto = omega arith; small = small; many = omega arith; put = omega arith; for = λ v. record { head = bare v; same = refl; agrees = agrees_start s v } })
 
 -- one field more
-module _ (s : Bytes) (k from n shapes : ℕ) (f : Fields) (p rest j : ℕ) (v : Word) (a : FillAt s k from n shapes f p rest j v) (more : j < n) (here : p ≤ length s)
-    (q : ℕ) (e : Ends 44 s p q) (r : Val) (er : r ≡ val_of (value_at (field_of (rest % 32)) f.second (take (q - p) (drop p s)))) where
+module _ (s : Bytes) (from : ℕ) (fs : List Shape) (f : Fields) (p j : ℕ) (v : Word) (a : FillAt s from fs f p j v) (few : f.put ≤ j) (small : length fs ≤ most_fields)
+    (more : j < length fs) (here : p ≤ length s) (k : Shape) (is : k ≡ shape_at fs j) (q : ℕ) (e : Ends 44 s p q) where
   abbrev piece : Bytes
   piece = slice p q s
 
   abbrev said : Value
-  said = value_at (field_of (rest % 32)) f.second piece
-
-  why-is : r.why ≡ why_of said
-  why-is = ap (λ (x : Val). x.why) er ∙ ap (λ (x : Bytes). why_of (value_at (field_of (rest % 32)) f.second x)) (part_slice p q s)
-
-  num-is : r.n ≡ num_of said
-  num-is = ap (λ (x : Val). x.n) er ∙ ap (λ (x : Bytes). num_of (value_at (field_of (rest % 32)) f.second x)) (part_slice p q s)
+  said = value_at (field_of k) (get_or f.nums 1 0) piece
 
   abbrev later : Head → Read
-  later h = fill h (fields_of (n - (j + 1)) (rest / 32)) (pieces s (q + 1))
+  later h = fill h (map field_of (drop (j + 1) fs)) (pieces s (q + 1))
 
-  turn : fill (bare v) (fields_of n shapes) (pieces s from) ≡ into a.head said later
-  unfolding fill fields_of
-  turn =
-      let z : n - j ≡ suc (n - (j + 1)) = omega arith in
-      a.same ∙ rw (z, pieces_step s p q here e, value-at (field_of (rest % 32)) a.head.nums piece, ← a.agrees.second)
+  turn : fill (bare v) (map field_of fs) (pieces s from) ≡ into a.head said later
+  unfolding fill
+  turn = a.same ∙ rw (drop-more fs j k more is, pieces_step s p q here e, value-at (field_of k) a.head.nums piece, ← a.agrees.nums 1)
 
-  pub field-stop : (r.why ≡ 0 → ⊥) → FilledAs s k (fill (bare v) (fields_of n shapes) (pieces s from)) (record { why = r.why; fields = f })
-  field-stop h =
-      let w : (why_of said ≡ 0 → ⊥) = λ z. h (why-is ∙ z) in
-      rw (turn ∙ into-stop a.head said later w) (why-is, omega arith)
+  pub field-stop : (why : Refusal) → Err why ≡ val_of said → FilledAs s (fill (bare v) (map field_of fs) (pieces s from)) (Err why)
+  field-stop why h =
+      let w = into-stop a.head said later why (says (field_of k) (get_or f.nums 1 0) piece) h in
+      rw (turn ∙ w.1) w.2
 
-  stored : (f' : Fields) → f' ≡ stored_in (field_of (rest % 32)) f k p q r.n → f' ≡ stored_in (field_of (rest % 32)) f k p q (num_of said)
-  stored f' ef = ef ∙ ap (stored_in (field_of (rest % 32)) f k p q) num-is
-
-  pub field_put : (f' : Fields) → f' ≡ stored_in (field_of (rest % 32)) f k p q r.n → f'.put ≤ j + 1
-  field_put f' ef = rw (stored f' ef) (omega (arith, put_on (field_of (rest % 32)) f k p q (num_of said), a.few))
-
-  pub field-on : r.why ≡ 0 → (f' : Fields) → f' ≡ stored_in (field_of (rest % 32)) f k p q r.n → FillAt s k from n shapes f' (q + 1) (rest / 32) (j + 1) v
-  field-on h f' ef =
-      let w : why_of said ≡ 0 = sym why-is ∙ h in
+  pub field-on : (n : ℕ) → Ok n ≡ val_of said → (f' : Fields) → f' ≡ stored_in (field_of k) f p q n → FillAt s from fs f' (q + 1) (j + 1) v
+  field-on n h f' ef =
+      let w = says (field_of k) (get_or f.nums 1 0) piece in
       record {
         head = absorbed a.head said;
-        same = turn ∙ into-on a.head said later (says (field_of (rest % 32)) f.second piece) w;
-        agrees = rw (stored f' ef) (agrees_on s k f a.head a.agrees p q e.within (field_of (rest % 32)) said (says (field_of (rest % 32)) f.second piece) w);
-        few = field_put f' ef;
+        same = turn ∙ into-on a.head said later n w h;
+        agrees = rw ef (agrees_on s f a.head a.agrees (omega arith) p q e.within (field_of k) said n w h);
       }
 
-module _ (s : Bytes) (k from n shapes : ℕ) (f : Fields) (p rest j : ℕ) (i : FillInv s k from n shapes f p rest j) (more : j < n) where
+-- what a field says, by the part that the code reads
+pub part-says : (s : Bytes) (p q l : ℕ) (k : Shape) {r : Rattle.std.specs.Prelude.Result ℕ Refusal} → r ≡ val_of (value_at (field_of k) l (take (q - p) (drop p s))) → r ≡ val_of (value_at (field_of k) l (slice p q s))
+part-says s p q l k e = e ∙ ap (λ (x : Bytes). val_of (value_at (field_of k) l x)) (part_slice p q s)
+
+module _ (s : Bytes) (from : ℕ) (fs : List Shape) (f : Fields) (p j : ℕ) (i : FillInv s from fs f p j) (more : j < length fs) where
   pub fill-inside : p ≤ length s
-  fill-inside = inside s p (n - j) i.many (omega arith)
+  fill-inside = inside s p (length fs - j) i.many (omega arith)
 
-  module _ (q : ℕ) (e : Ends 44 s p q) (r : Val) (er : r ≡ val_of (value_at (field_of (rest % 32)) f.second (take (q - p) (drop p s)))) where
-    pub fill_stop : (r.why ≡ 0 → ⊥) → (v : Word) → FilledAs s k (fill (bare v) (fields_of n shapes) (pieces s from)) (record { why = r.why; fields = f })
-    fill_stop h v = field-stop s k from n shapes f p rest j v (i.for v) more fill-inside q e r er h
+  pub fill-room : f.put < most_fields
+  fill-room = omega (arith, i.put, i.small)
 
-    pub fill_on : r.why ≡ 0 → (f' : Fields) → f' ≡ stored_in (field_of (rest % 32)) f k p q r.n → FillInv s k from n shapes f' (q + 1) (rest / 32) (j + 1)
-    fill_on h f' ef =
+  module _ (k : Shape) (is : k ≡ shape_at fs j) (q : ℕ) (e : Ends 44 s p q) where
+    pub fill_stop : (why : Refusal) → Err why ≡ val_of (value_at (field_of k) (get_or f.nums 1 0) (take (q - p) (drop p s))) → (v : Word) → FilledAs s (fill (bare v) (map field_of fs) (pieces s from)) (Err why)
+    fill_stop why h v = field-stop s from fs f p j v (i.for v) i.put i.small more fill-inside k is q e why (part-says s p q (get_or f.nums 1 0) k h)
+
+    pub fill_on : (n : ℕ) → Ok n ≡ val_of (value_at (field_of k) (get_or f.nums 1 0) (take (q - p) (drop p s))) → (f' : Fields) → f' ≡ stored_in (field_of k) f p q n → FillInv s from fs f' (q + 1) (j + 1)
+    fill_on n h f' ef =
         record {
           upto = omega arith;
           small = i.small;
           many = omega (arith, ap length (pieces_step s p q fill-inside e), i.many);
-          put = field_put s k from n shapes f p rest j null_word (i.for null_word) more fill-inside q e r er f' ef;
-          for = λ v. field-on s k from n shapes f p rest j v (i.for v) more fill-inside q e r er h f' ef;
+          put = rw ef (omega (arith, put_on (field_of k) f p q n, i.put));
+          for = λ v. field-on s from fs f p j v (i.for v) i.put i.small more fill-inside k is q e n (part-says s p q (get_or f.nums 1 0) k h) f' ef;
         }
 
 no_pieces : (ps : List Bytes) → length ps ≡ 0 → ps ≡ []
 no_pieces [] e = refl
 no_pieces (x ∷ ps) e = absurd (omega arith)
 
-pub field_end : (s : Bytes) (k from n shapes : ℕ) (f : Fields) (p rest j : ℕ) (v : Word) → FillAt s k from n shapes f p rest j v → n ≤ j → pieces s p ≡ []
-    → FilledAs s k (fill (bare v) (fields_of n shapes) (pieces s from)) (record { why = 0; fields = f })
-unfolding fill fields_of
-field_end s k from n shapes f p rest j v a over gone =
-    let z : n - j ≡ 0 = omega arith in
-    let full : fill (bare v) (fields_of n shapes) (pieces s from) ≡ ok a.head = a.same ∙ rw (z, gone) in
-    rw full (refl, a.agrees)
+pub field_end : (s : Bytes) (from : ℕ) (fs : List Shape) (f : Fields) (p j : ℕ) (v : Word) → FillAt s from fs f p j v → length fs ≤ j → pieces s p ≡ []
+    → FilledAs s (fill (bare v) (map field_of fs) (pieces s from)) (Ok f)
+unfolding fill
+field_end s from fs f p j v a over gone =
+    let full : fill (bare v) (map field_of fs) (pieces s from) ≡ ok a.head = a.same ∙ rw (drop_of_length-le fs over, gone) in
+    rw full a.agrees
 
-pub fill_end : (s : Bytes) (k from n shapes : ℕ) (f : Fields) (p rest j : ℕ) → FillInv s k from n shapes f p rest j → n ≤ j
-    → (v : Word) → FilledAs s k (fill (bare v) (fields_of n shapes) (pieces s from)) (record { why = 0; fields = f })
-fill_end s k from n shapes f p rest j i over v = field_end s k from n shapes f p rest j v (i.for v) over (no_pieces (pieces s p) (omega (arith, i.many)))
+pub fill_end : (s : Bytes) (from : ℕ) (fs : List Shape) (f : Fields) (p j : ℕ) → FillInv s from fs f p j → length fs ≤ j
+    → (v : Word) → FilledAs s (fill (bare v) (map field_of fs) (pieces s from)) (Ok f)
+fill_end s from fs f p j i over v = field_end s from fs f p j v (i.for v) over (no_pieces (pieces s p) (omega (arith, i.many)))
+
+-- the commas from a place on
+pub commas-at : (s : Bytes) (at n : ℕ) → at ≤ length s → n ≡ count_by (λ b. b == 44) (take (length s - at) (drop at s)) → suc n ≡ length (split 44 (drop at s))
+commas-at s at n h e =
+    let whole : take (length s - at) (drop at s) ≡ drop at s = take_all (length s - at) (drop at s) (omega (arith, length-drop at s)) in
+    ap suc (e ∙ ap (λ (t : Bytes). count_by (λ b. b == 44) t) whole) ∙ split-count (drop at s)

@@ -1,6 +1,7 @@
 -- A line that is passed over: its word by its letters and the mark behind them, and its end from any place in it. Assumes nothing.
 use mathlib.Core.Path.{◌≡◌, refl, sym, ◌∙◌, ap}
 use mathlib.Core.List.{List, [], ◌∷◌}
+use mathlib.Core.Option.{some}
 use mathlib.Core.Logic.{inl, inr}
 use Prim.Native.Nat.{ℕ, ◌+◌, ◌-◌, ◌≤◌, ◌<◌}
 use native.Mathlib.Decide.{dec_lt}
@@ -12,26 +13,26 @@ use Rattle.semantics.specs.Sheet.{ok, bad, words}
 use Rattle.text.specs.Text.{Ends}
 use Rattle.text.proofs.Laws.{part_slice, slice-take}
 use Rattle.text.proofs.Words.{ends, index-first}
-use Rattle.line.specs.Rows.{code_from, number_in, word_no}
+use Rattle.line.specs.Rows.{code_from, word_at}
 use Rattle.line.specs.Line.{Plain, unknown, known, line_says, SaysAs, ReadAs}
 use Rattle.line.specs.Quick.{Stood, LeadAs}
 use Rattle.line.specs.Opening.{WordIs, FirstWord, OpensAs, BehindAs}
+use Rattle.std.specs.Prelude.{Option as Maybe, Some, Result, Ok, Err}
+use Rattle.line.specs.declared.words.Word.{Word as Coded}
+use Rattle.line.specs.declared.line.BadLine.{BadLine}
+use Rattle.line.specs.Words.{word_of}
 use Rattle.line.specs.declared.quick.Lead.{Lead}
 use Rattle.line.specs.declared.line.Head.{Head as Seen}
 use Rattle.line.specs.declared.opening.Opening.{Opening}
 use Rattle.line.proofs.LineLaws.{split-some}
 use Rattle.line.proofs.ReadLaws.{word-says}
-use Rattle.line.proofs.QuickLaws.{Cut, cut-ends, ends_at, taken-small, number-code}
+use Rattle.line.proofs.QuickLaws.{Cut, cut-ends, ends_at, taken-small}
 
 -- ## A word with a mark behind it
 
-module _ (s : Bytes) (at : ℕ) (r : Lead) (lead : LeadAs s at r) (bytes : (x : ℕ) → get_or s x 0 < 256) (word : ℕ) (named : word ≡ number_in r.code words) (known : word ≡ 0 → ⊥) where
-  letters : Stood s at r.end × (r.code ≡ code_from 1 (slice at r.end s))
-  letters = lead (number-code r.code (omega (arith, named, known)))
-
-  -- where they end
-  pub lead-inside : r.end < length s
-  lead-inside = letters.0.inside
+module _ (s : Bytes) (at : ℕ) (r : Lead) (letters : LeadAs s at (Some r)) (bytes : (x : ℕ) → get_or s x 0 < 256) (coded : Coded) (named : word_at r.code words ≡ some (word_of coded)) where
+  abbrev word : Maybe Coded
+  word = Some coded
 
   -- a line that ends at e
   word_cut : (e : ℕ) → Ends 10 s at e → e < length s → r.end ≤ e → Cut s e r.end → FirstWord word (split 10 (drop at s))
@@ -40,11 +41,11 @@ module _ (s : Bytes) (at : ℕ) (r : Lead) (lead : LeadAs s at r) (bytes : (x : 
       long : length (take e s) ≡ e
       long = length-take-le e s (omega arith)
 
-      spelled : word ≡ number_in (code_from 1 (take (r.end - at) (drop at (take e s)))) words
-      spelled = named ∙ ap (λ (c : ℕ). number_in c words) letters.1 ∙ ap (λ (t : Bytes). number_in (code_from 1 t) words) (sym (slice-take at r.end e s le) ∙ sym (part_slice at r.end (take e s)))
+      spelled : word_at (code_from 1 (take (r.end - at) (drop at (take e s)))) words ≡ some (word_of coded)
+      spelled = ap (λ (t : Bytes). word_at (code_from 1 t) words) (part_slice at r.end (take e s) ∙ slice-take at r.end e s le) ∙ ap (λ (c : ℕ). word_at c words) (sym letters.1) ∙ named
 
       says : WordIs word (line_says (drop at (take e s)))
-      says = word-says (take e s) at r.end (omega (arith, long, E.from)) (cut-ends s at r.end e letters.0 (omega arith) c) (taken-small e s bytes) _ word refl spelled known
+      says = word-says (take e s) at r.end (omega (arith, long, E.from)) (cut-ends s at r.end e letters.0 (omega arith) c) (taken-small e s bytes) coded spelled
 
       go : (ls : List Bytes) → 0 < length ls → FirstWord word (slice at e s ∷ ls)
       go [] l = absurd (omega arith)
@@ -77,18 +78,27 @@ module _ (s : Bytes) (at : ℕ) (r : Lead) (lead : LeadAs s at r) (bytes : (x : 
 
 -- ## A line that was read
 
-said-word : (s : Bytes) (h : Seen) (p : Plain) → SaysAs s h p → WordIs h.word p
-said-word s h unknown x = x
-said-word s h (known v (bad c)) x = x.0
-said-word s h (known v (ok k)) x = x.1.word ∙ ap word_no (sym x.0)
+-- its word, if it has one
+abbrev pub word_read : Result Seen BadLine → Maybe Coded
+word_read (Ok h) = Some h.word
+word_read (Err b) = b.word
 
-pub read_word : (s : Bytes) (at : ℕ) (h : Seen) (ls : List Bytes) → ReadAs s at h ls → FirstWord h.word ls
-read_word s at h [] x = tt
-read_word s at h (l ∷ []) x = tt
-read_word s at h (l ∷ l' ∷ ls) x = said-word s h (line_says l) x.3
+said-word : (s : Bytes) (r : Result Seen BadLine) (p : Plain) → SaysAs s r p → WordIs (word_read r) p
+said-word s (Ok h) unknown x = elim x [ ]
+said-word s (Err b) unknown x = x
+said-word s (Ok h) (known v (bad c)) x = elim x [ ]
+said-word s (Err b) (known v (bad c)) x = x.0
+said-word s (Ok h) (known v (ok k)) x = x.1.word ∙ sym x.0
+said-word s (Err b) (known v (ok k)) x = elim x [ ]
 
-pub opened-read : (s : Bytes) (at : ℕ) → at ≤ length s → (h : Seen) → ReadAs s at h (split 10 (drop at s)) → OpensAs s at (record { word = h.word; from = at })
-opened-read s at l h x = record { on = omega arith; within = l; clear = λ i a b. absurd (omega arith); word = read_word s at h (split 10 (drop at s)) x }
+pub read_word : (s : Bytes) (at : ℕ) (r : Result Seen BadLine) (ls : List Bytes) → ReadAs s at r ls → FirstWord (word_read r) ls
+read_word s at r [] x = tt
+read_word s at r (l ∷ []) x = tt
+read_word s at r (l ∷ l' ∷ ls) x = said-word s r (line_says l) x.3
+
+pub opened-read : (s : Bytes) (at : ℕ) → at ≤ length s → (r : Result Seen BadLine) → ReadAs s at r (split 10 (drop at s)) → (word : Maybe Coded) → word ≡ word_read r
+    → OpensAs s at (record { word = word; from = at })
+opened-read s at l r x word e = record { on = omega arith; within = l; clear = λ i a b. absurd (omega arith); word = rw e (read_word s at r (split 10 (drop at s)) x) }
 
 -- ## The line's end
 

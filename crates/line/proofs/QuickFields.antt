@@ -12,17 +12,21 @@ use lib.ListN.{length, get_or, take, drop}
 use lib.Seq.{slice, get_or-take, length-take-le, length-slice}
 use borrow.Author.Tests.{le-leb}
 use Rattle.semantics.specs.Bytes.{Bytes, is_digit, digits, decimal, unhex}
-use Rattle.semantics.specs.Sheet.{number, within, is_dash, lettered}
-use Rattle.text.specs.Text.{is_found, is_hex, dec_of}
-use Rattle.text.specs.declared.Dec.TheVariants.{Is}
+use Rattle.semantics.specs.Sheet.{wrong, number, is_dash, lettered}
+use Rattle.std.specs.Prelude.{Option as Maybe, Some, None, Ok}
+use Rattle.text.specs.Text.{is_found, is_hex}
 use Rattle.text.proofs.Laws.{get_or-slice, part_slice}
-use Rattle.text.proofs.Words.{number-on, number-end, hexes-on, hexes-end, decimal-one, decimal-more, capped_is}
-use Rattle.line.specs.declared.field.Val.{Val}
+use Rattle.text.proofs.Words.{number-on, number-end, hexes-on, hexes-end, decimal-one, decimal-more}
+use Rattle.line.specs.declared.shapes.Shape.{Shape}
+use Rattle.line.specs.declared.shapes.Shape.TheVariants.{Range, Variable, Optional, Name, Alias, Bound, Letter, Float}
 use Rattle.line.specs.declared.in_place.Got.{Got}
-use Rattle.line.specs.Fields.{field_of, val_of, value_at}
-use Rattle.line.specs.Quick.{Clean, Stood, DigitsTo, NumberAs, HexTo, PieceTo, GotAs, Dashed, OptionalAs}
-use Rattle.line.proofs.FieldLaws.{dash-is, dash-not, dash-other}
-use Rattle.line.proofs.ValueLaws.{read_number, name-fine, float-fine, as-name, as-float, as-optional, as-aliased, as-bound, optional-dash, optional-some, alias-dash, bound-dash, letter-is, as-letter}
+use Rattle.line.specs.declared.kinds.VarKind.{VarKind}
+use Rattle.line.specs.declared.kinds.VarKind.TheVariants.{Node, Relationship, Path, Value}
+use Rattle.line.specs.Kinds.{kind_no}
+use Rattle.line.specs.Words.{field_of}
+use Rattle.line.specs.Fields.{clip, val_of, value_at}
+use Rattle.line.specs.Quick.{Clean, Stood, DigitsTo, NumberAs, HexTo, PieceTo, GotAs, Dashed}
+use Rattle.line.proofs.ValueLaws.{dash-is, dash-not, dash-other, within_in, var-number, name-fine, name-says, float-fine, optional-dash, optional-some, alias-dash, bound-dash}
 
 -- ## No comma and no LF
 
@@ -106,10 +110,12 @@ digit-alone s at h a b = (
       ∙ first-same s at (at + 1) (omega arith) (omega arith) a b ∙ done s (get_or s at 0 - 48) (at + 1) (omega arith),
 )
 
--- a number that is not above m
-pub fits : (n m : ℕ) (t : Bytes) → decimal t ≡ some n → n ≤ m → m < 18446744073709551616 → record { why = 0; n = n } ≡ val_of (within 0 m (decimal t) number)
-unfolding dec_of
-fits n m t e h k = read_number (decimal t) (Is n) (rw e (sym (capped_is n (omega arith)))) 0 m n refl (omega arith) h
+-- a number of a range
+pub ranged-got : (s : Bytes) (at least most l : ℕ) (r : Got) → NumberAs s at (Some r) → least ≤ r.n → r.n ≤ most → most < 18446744073709551616 → GotAs s at (Range least most) l (Some r)
+unfolding value_at
+ranged-got s at least most l r g h k small =
+    let z : r.n ≡ clip r.n = omega arith in
+    (g.0, rw g.1 (ap Ok z ∙ ap val_of (sym (within_in least most r.n number h k))))
 
 -- ## Hexadecimal digits
 
@@ -141,23 +147,23 @@ hex-more s at i d h w = hex-on s at i d h (⊎_elim (λ x. hex-digit (get_or s i
 pub hex-start : (s : Bytes) (at : ℕ) → at ≤ length s → HexTo s at at
 hex-start s at h = record { from = omega arith; within = h; clean = clean-none s at; same = λ e p q. refl }
 
-pub name-got : (s : Bytes) (at r : ℕ) → HexTo s at r → r < length s → (r - at) % 2 ≡ 0 → r - at ≤ 510
-    → (l : ℕ) → GotAs s at 9 l (record { end = r; n = 0 })
-name-got s at r d h even few l z =
-    let t : Bytes = slice at r s in
-    let long : length t ≡ r - at = length-slice at r s (omega arith) in
-    let hexes : is_found (unhex t) ≡ true = d.same r (omega arith) (omega arith) ∙ hexes-end (take r s) r (omega (arith, length-take-le r s (omega arith))) in (
-      record { from = d.from; inside = h; clean = d.clean },
-      as-name 9 l t 0 0 (name-fine t true (sym hexes) 0 refl (ap (λ (k : ℕ). k % 2) long ∙ even) (omega arith)) refl,
-    )
+module _ (s : Bytes) (at r : ℕ) (d : HexTo s at r) (h : r < length s) where
+  stands : Stood s at r
+  stands = record { from = d.from; inside = h; clean = d.clean }
 
-pub float_got : (s : Bytes) (at r : ℕ) → HexTo s at r → r < length s → r - at ≡ 16 → (l : ℕ) → GotAs s at 14 l (record { end = r; n = 0 })
-float_got s at r d h e l z =
-    let t : Bytes = slice at r s in
-    let hexes : is_found (unhex t) ≡ true = d.same r (omega arith) (omega arith) ∙ hexes-end (take r s) r (omega (arith, length-take-le r s (omega arith))) in (
-      record { from = d.from; inside = h; clean = d.clean },
-      float-fine t true (sym hexes) refl (length-slice at r s (omega arith) ∙ e) ∙ as-float 14 l t refl,
-    )
+  long : length (slice at r s) ≡ r - at
+  long = length-slice at r s (omega arith)
+
+  hexes : true ≡ is_found (unhex (slice at r s))
+  hexes = sym (d.same r (omega arith) (omega arith) ∙ hexes-end (take r s) r (omega (arith, length-take-le r s (omega arith))))
+
+  pub name-got : (r - at) % 2 ≡ 0 → r - at ≤ 510 → (l : ℕ) → GotAs s at Name l (Some (record { end = r; n = 0 }))
+  unfolding value_at
+  name-got even few l = (stands, name-fine (slice at r s) 0 hexes (ap (λ (k : ℕ). k % 2) long ∙ even) (omega (arith, long)) ∙ name-says (unhex (slice at r s)))
+
+  pub float-got : r - at ≡ 16 → (l : ℕ) → GotAs s at Float l (Some (record { end = r; n = 0 }))
+  unfolding value_at
+  float-got e l = (stands, float-fine (slice at r s) hexes (long ∙ e))
 
 -- ## A dash
 
@@ -166,18 +172,27 @@ first_of s at end h =
     let z : at + 0 ≡ at = omega arith in
     get_or-slice at end s 0 0 (omega arith) ∙ ap (λ (j : ℕ). get_or s j 0) z
 
-pub dash-got : (s : Bytes) (at shape l : ℕ) → at + 1 < length s → get_or s at 0 ≡ 45 → Dashed shape → GotAs s at shape l (record { end = at + 1; n = 0 })
-dash-got s at shape l h e d z = (
+pub dash-got : (s : Bytes) (at l : ℕ) (shape : Shape) → at + 1 < length s → get_or s at 0 ≡ 45 → Dashed shape → GotAs s at shape l (Some (record { end = at + 1; n = 0 }))
+dash-got s at l shape h e d = (
   record { from = omega arith; inside = h; clean = clean-on s at at (clean-none s at) (λ q. omega arith) (λ q. omega arith) },
   d l (slice at (at + 1) s) (dash-is (slice at (at + 1) s) (length-slice at (at + 1) s (omega arith) ∙ omega arith) (first_of s at (at + 1) (omega arith) ∙ e)),
 )
 
-pub letter-got : (s : Bytes) (at c n : ℕ) → at + 1 < length s → get_or s at 0 ≡ c → (c ≡ 44 → ⊥) → (c ≡ 10 → ⊥) → record { why = 0; n = n } ≡ val_of (lettered (c ∷ []))
-    → (l : ℕ) → GotAs s at 12 l (record { end = at + 1; n = n })
-letter-got s at c n h e a b v l z =
-    let t : Bytes = slice at (at + 1) s in (
+single : (s : Bytes) (c : ℕ) → length s ≡ 1 → get_or s 0 0 ≡ c → s ≡ c ∷ []
+single [] c l e = absurd (omega arith)
+single (x ∷ []) c l e = cc
+single (x ∷ y ∷ s) c l e = absurd (omega arith)
+
+-- one of the letters, none of which ends a piece
+pub letter-got : (s : Bytes) (at c n l : ℕ) → at + 1 < length s → get_or s at 0 ≡ c → (c ≡ 44 → ⊥) → (c ≡ 10 → ⊥) → n ≤ 3 → lettered (c ∷ []) ≡ number n
+    → GotAs s at Letter l (Some (record { end = at + 1; n = n }))
+unfolding value_at
+letter-got s at c n l h e a b small v =
+    let t : Bytes = slice at (at + 1) s in
+    let z : n ≡ clip n = omega arith in
+    let one : t ≡ c ∷ [] = single t c (length-slice at (at + 1) s (omega arith) ∙ omega arith) (first_of s at (at + 1) (omega arith) ∙ e) in (
       record { from = omega arith; inside = h; clean = clean-on s at at (clean-none s at) (λ q. a (sym e ∙ q)) (λ q. b (sym e ∙ q)) },
-      letter-is t c n (length-slice at (at + 1) s (omega arith) ∙ omega arith) (first_of s at (at + 1) (omega arith) ∙ e) v ∙ as-letter 12 l t refl,
+      rw (one, v) (ap Ok z),
     )
 
 pub not-dash : (s : Bytes) (at end : ℕ) → end ≤ length s → (get_or s at 0 ≡ 45 → ⊥) → false ≡ is_dash (slice at end s)
@@ -187,20 +202,26 @@ not-dash s at end k h = go (dec_lt at end)
     go (yes l) = dash-other (slice at end s) (λ e. h (sym (first_of s at end l) ∙ e))
     go (no l) = dash-not (slice at end s) (λ e. omega (arith, length-slice at end s k))
 
-pub optional-got : (s : Bytes) (at : ℕ) (r : Got) → NumberAs s at r → r.n < 4294967296 → (l : ℕ) → OptionalAs s at l r
-optional-got s at r n h l other z =
-    let g = n z in
-    let t : Bytes = slice at r.end s in
-    (g.0, fits r.n 4294967295 t g.1 (omega arith) (omega arith) ∙ optional-some t 0 false (not-dash s at r.end (omega (arith, g.0.inside)) other) refl ∙ as-optional 8 l t refl)
+-- a variable is a number
+pub variable-got : (s : Bytes) (at l : ℕ) (r : Maybe Got) → GotAs s at (Range 0 4294967295) l r → GotAs s at Variable l r
+unfolding value_at
+variable-got s at l None g = tt
+variable-got s at l (Some r) g = (g.0, g.1 ∙ var-number _)
 
-pub dashed-optional : (k : ℕ) → k ≡ 8 → Dashed k
-dashed-optional k e l t d = optional-dash t 0 true d refl ∙ as-optional k l t e
+pub optional-got : (s : Bytes) (at l : ℕ) (r : Maybe Got) → (get_or s at 0 ≡ 45 → ⊥) → GotAs s at (Range 0 4294967295) l r → GotAs s at Optional l r
+unfolding value_at
+optional-got s at l None other g = tt
+optional-got s at l (Some r) other g = (g.0, g.1 ∙ optional-some (slice at r.end s) l (not-dash s at r.end (omega (arith, g.0.inside)) other))
 
-pub dashed-alias : (k : ℕ) → k ≡ 10 → Dashed k
-dashed-alias k e l t d = alias-dash t 0 true d refl ∙ as-aliased k l t e
+pub dashed-optional : Dashed Optional
+dashed-optional l t d = optional-dash t l d
 
-pub dashed-bound : (k : ℕ) → k ≡ 11 → Dashed k
-dashed-bound k e l t d = bound-dash t l true d refl ∙ as-bound k l t e
+pub dashed-alias : Dashed Alias
+dashed-alias l t d = alias-dash t l d
+
+pub dashed-bound : Dashed Bound
+unfolding value_at
+dashed-bound l t d = bound-dash t l d
 
 -- ## Any piece
 
@@ -210,10 +231,23 @@ piece-start s at h = record { from = omega arith; within = h; clean = clean-none
 pub piece-on : (s : Bytes) (at i : ℕ) → PieceTo s at i → i < length s → (get_or s i 0 ≡ 44 → ⊥) → (get_or s i 0 ≡ 10 → ⊥) → PieceTo s at (i + 1)
 piece-on s at i d h a b = record { from = omega (arith, d.from); within = omega arith; clean = clean-on s at i d.clean a b }
 
-pub other-got : (s : Bytes) (at r shape l : ℕ) (v : Val) → PieceTo s at r → r < length s → v ≡ val_of (value_at (field_of shape) l (take (r - at) (drop at s))) → v.why ≡ 0
-    → GotAs s at shape l (record { end = r; n = v.n })
-other-got s at r shape l v d h e w z =
-    let q : record { why = 0; n = v.n } ≡ v = cc (sym w) in (
-      record { from = d.from; inside = h; clean = d.clean },
-      q ∙ e ∙ ap (λ (t : Bytes). val_of (value_at (field_of shape) l t)) (part_slice at r s),
-    )
+pub other-got : (s : Bytes) (at r l n : ℕ) (shape : Shape) → PieceTo s at r → r < length s → Ok n ≡ val_of (value_at (field_of shape) l (take (r - at) (drop at s)))
+    → GotAs s at shape l (Some (record { end = r; n = n }))
+other-got s at r l n shape d h e = (
+  record { from = d.from; inside = h; clean = d.clean },
+  e ∙ ap (λ (t : Bytes). val_of (value_at (field_of shape) l t)) (part_slice at r s),
+)
+
+-- the letter of a kind
+pub kind-got : (s : Bytes) (at l : ℕ) (k : VarKind) → at + 1 < length s → lettered (get_or s at 0 ∷ []) ≡ number (kind_no k) → GotAs s at Letter l (Some (record { end = at + 1; n = kind_no k }))
+unfolding lettered
+kind-got s at l k h e = letter-got s at (get_or s at 0) (kind_no k) l h refl (λ z. no-letter 44 refl z) (λ z. no-letter 10 refl z) (few k) e
+  where
+    few : (k : VarKind) → kind_no k ≤ 3
+    few Node = omega arith
+    few Relationship = omega arith
+    few Path = omega arith
+    few Value = omega arith
+
+    no-letter : (c : ℕ) → lettered (c ∷ []) ≡ wrong 3 → get_or s at 0 ≡ c → ⊥
+    no-letter c w z = let q : wrong 3 ≡ number (kind_no k) = sym w ∙ ap (λ (d : ℕ). lettered (d ∷ [])) (sym z) ∙ e in let y : ⊥ = cc in y

@@ -1,35 +1,32 @@
 -- A line read at once: where a piece ends in a line whose end is not known yet, and the line at its end. Assumes nothing.
 use mathlib.Core.Path.{◌≡◌, refl, sym, ◌∙◌, ap}
 use mathlib.Core.List.{List, [], ◌∷◌}
+use mathlib.Core.Option.{some}
 use mathlib.Core.Logic.{◌⊎◌, inl, inr, ⊎_elim}
-use Prim.Native.Nat.{ℕ, suc, zero, ◌+◌, ◌-◌, ◌*◌, ◌/◌, ◌%◌, ◌≤◌, ◌<◌}
-use mathlib.Core.Bool.{Bool, true, false, cond, ◌&&◌}
-use lib.Dec.{eqb, ltb}
-use borrow.Author.Tests.{eqb-true, ne_eqb, lt-ltb}
+use Prim.Native.Nat.{ℕ, suc, zero, ◌+◌, ◌-◌, ◌*◌, ◌≤◌, ◌<◌}
 use native.Mathlib.Decide.{dec_lt}
 use native.Mathlib.Omega.{arith}
 use lib.ListN.{length, get_or, take, drop}
 use lib.Seq.{slice, get_or-take, get_or-drop, length-take-le}
-use Rattle.semantics.specs.Bytes.{Bytes, split, text}
-use Rattle.semantics.specs.Sheet.{Word, null_word, fill, bare, row, words}
+use Rattle.semantics.specs.Bytes.{Bytes, split}
+use Rattle.semantics.specs.Sheet.{Word, fill, bare, row, words}
 use Rattle.text.specs.Text.{Ends}
 use Rattle.text.proofs.Laws.{part_slice, slice-take}
 use Rattle.text.proofs.Words.{ends, index-first}
-use Rattle.line.specs.declared.field.Val.{Val}
+use Rattle.std.specs.Prelude.{map, Some, Ok}
+use Rattle.line.specs.declared.words.Word.{Word as Coded}
+use Rattle.line.specs.declared.shapes.Shape.{Shape}
+use Rattle.line.specs.declared.rows.Row.{Row as Listed}
+use Rattle.line.specs.Words.{word_of, field_of, under_of}
 use Rattle.line.specs.declared.field.Fields.{Fields}
-use Rattle.line.specs.declared.line.Head.{Head as Seen}
-use Rattle.line.specs.Arrays.{field_no, field_nos, shapes, slots, field_rows}
-use Rattle.line.specs.Rows.{code_from, number_in, word_no, numbered}
-use Rattle.line.specs.Fields.{field_of, fields_of, val_of, value_at, nothing_yet, stored_in}
+use Rattle.line.specs.Rows.{code_from, word_at, RowAs}
+use Rattle.line.specs.Fields.{most_fields, val_of, value_at, nothing_yet, stored_in}
 use Rattle.line.specs.Line.{pieces, FilledAs, ReadAs, seen_as}
-use Rattle.line.specs.Quick.{Clean, Stood, WordAt, ClosedAs, QuickBehind, RowIs, LeadAs, row_in}
+use Rattle.line.specs.Quick.{Clean, Stood, WordAt, LeadAs}
 use Rattle.line.specs.declared.quick.Lead.{Lead}
-use Rattle.line.proofs.FillLaws.{agrees_start}
-use Rattle.line.proofs.LineLaws.{code-on, code-end, pieces-in, pieces-past, pieces_step, FillAt, field-on, field_put, field_end}
-use Rattle.line.proofs.ReadLaws.{read-filled, read-line}
-use Rattle.line.proofs.Words.{both_l, both_r}
-use Rattle.line.proofs.Rows.{word-range}
-use Rattle.line.proofs.Tables.{shapes-at, slots_at}
+use Rattle.line.proofs.FillLaws.{agrees_start, put_on}
+use Rattle.line.proofs.LineLaws.{shape_at, code-on, code-end, pieces-in, pieces-past, pieces_step, FillAt, field-on, field_end}
+use Rattle.line.proofs.ReadLaws.{read-good, read-line}
 use Rattle.line.proofs.QuickFields.{clean-on, clean-none}
 
 -- ## The word
@@ -120,21 +117,20 @@ module _ (s : Bytes) (at r e : ℕ) (d : Stood s at r) (le : e ≤ length s) (c 
 
 -- ## The fields
 
--- j of the n fields behind the word that ends at `end` were read, up to p; a line that may end there says what is kept of them
-pub record QuickInv (s : Bytes) (k end n sh : ℕ) (f : Fields) (p rest j : ℕ) : Type 0 where
-  pub upto : j ≤ n
-  pub small : n < 32
+-- j of the fields behind the word that ends at `end` were read, up to p; a line that may end there says what is kept of them
+pub record QuickInv (s : Bytes) (end : ℕ) (fs : List Shape) (f : Fields) (p j : ℕ) : Type 0 where
+  pub upto : j ≤ length fs
+  pub small : length fs ≤ most_fields
   pub on : end ≤ p
   pub inside : p < length s
   pub put : f.put ≤ j
   pub word : Cut s p end
   pub lines : (i : ℕ) → end ≤ i → i < p → get_or s i 0 ≡ 10 → ⊥
-  pub for : (e : ℕ) → e ≤ length s → Cut s e p → (v : Word) → FillAt (take e s) k (end + 1) n sh f (p + 1) rest j v
+  pub for : (e : ℕ) → e ≤ length s → Cut s e p → (v : Word) → FillAt (take e s) (end + 1) fs f (p + 1) j v
   pub many : (e : ℕ) → e ≤ length s → Cut s e p → length (pieces (take e s) (end + 1)) ≡ j + length (pieces (take e s) (p + 1))
 
-pub quick-start : (s : Bytes) (k end n sh : ℕ) (f : Fields) → f ≡ nothing_yet → n < 32 → end < length s → QuickInv s k end n sh f end sh 0
-quick-start s k end n sh f e small h =
-    let z : n - 0 ≡ n = omega arith in
+pub quick-start : (s : Bytes) (end : ℕ) (fs : List Shape) (f : Fields) → f ≡ nothing_yet → length fs ≤ most_fields → end < length s → QuickInv s end fs f end 0
+quick-start s end fs f e small h =
     rw e (record {
       upto = omega arith;
       small = small;
@@ -143,13 +139,13 @@ quick-start s k end n sh f e small h =
       put = omega arith;
       word = inl refl;
       lines = λ i p q. absurd (omega arith);
-      for = λ e le c v. record { head = bare v; same = rw z; agrees = agrees_start (take e s) k v; few = omega arith };
+      for = λ e le c v. record { head = bare v; same = refl; agrees = agrees_start (take e s) v };
       many = λ e le c. omega arith;
     })
 
-module _ (s : Bytes) (k end n sh : ℕ) (f : Fields) (p rest j : ℕ) (i : QuickInv s k end n sh f p rest j) (more : j < n) (comma : get_or s p 0 ≡ 44)
-    (q x : ℕ) (d : Stood s (p + 1) q) (er : record { why = 0; n = x } ≡ val_of (value_at (field_of (rest % 32)) f.second (slice (p + 1) q s)))
-    (f' : Fields) (ef : f' ≡ stored_in (field_of (rest % 32)) f k (p + 1) q x) where
+module _ (s : Bytes) (end : ℕ) (fs : List Shape) (f : Fields) (p j : ℕ) (i : QuickInv s end fs f p j) (more : j < length fs) (comma : get_or s p 0 ≡ 44)
+    (k : Shape) (is : k ≡ shape_at fs j) (q x : ℕ) (d : Stood s (p + 1) q) (er : Ok x ≡ val_of (value_at (field_of k) (get_or f.nums 1 0) (slice (p + 1) q s)))
+    (f' : Fields) (ef : f' ≡ stored_in (field_of k) f (p + 1) q x) where
   module _ (e : ℕ) (le : e ≤ length s) (c : Cut s e q) where
     long : length (take e s) ≡ e
     long = length-take-le e s le
@@ -163,34 +159,23 @@ module _ (s : Bytes) (k end n sh : ℕ) (f : Fields) (p rest j : ℕ) (i : Quick
     piece : Ends 44 (take e s) (p + 1) q
     piece = cut-ends s (p + 1) q e d le c
 
-    abbrev got : Val
-    got = record { why = 0; n = x }
+    says : Ok x ≡ val_of (value_at (field_of k) (get_or f.nums 1 0) (slice (p + 1) q (take e s)))
+    says = er ∙ ap (λ (t : Bytes). val_of (value_at (field_of k) (get_or f.nums 1 0) t)) (sym (slice-take (p + 1) q e s (cut-le s (p + 1) q e d le c)))
 
-    says : got ≡ val_of (value_at (field_of (rest % 32)) f.second (take (q - (p + 1)) (drop (p + 1) (take e s))))
-    says =
-        er ∙ ap (λ (t : Bytes). val_of (value_at (field_of (rest % 32)) f.second t))
-        (sym (slice-take (p + 1) q e s (cut-le s (p + 1) q e d le c)) ∙ sym (part_slice (p + 1) q (take e s)))
-
-    old : (v : Word) → FillAt (take e s) k (end + 1) n sh f (p + 1) rest j v
-    old v = i.for e le (inr (before, comma)) v
-
-    step : (v : Word) → FillAt (take e s) k (end + 1) n sh f' (q + 1) (rest / 32) (j + 1) v
-    step v = field-on (take e s) k (end + 1) n sh f (p + 1) rest j v (old v) more here q piece got says refl f' ef
-
-    fewer : f'.put ≤ j + 1
-    fewer = field_put (take e s) k (end + 1) n sh f (p + 1) rest j null_word (old null_word) more here q piece got says f' ef
+    step : (v : Word) → FillAt (take e s) (end + 1) fs f' (q + 1) (j + 1) v
+    step v = field-on (take e s) (end + 1) fs f (p + 1) j v (i.for e le (inr (before, comma)) v) i.put i.small more here k is q piece x says f' ef
 
     count : length (pieces (take e s) (end + 1)) ≡ j + 1 + length (pieces (take e s) (q + 1))
     count = omega (arith, i.many e le (inr (before, comma)), ap length (pieces_step (take e s) (p + 1) q here piece))
 
-  pub quick-on : QuickInv s k end n sh f' q (rest / 32) (j + 1)
+  pub quick-on : QuickInv s end fs f' q (j + 1)
   quick-on =
       record {
         upto = omega arith;
         small = i.small;
         on = omega (arith, i.on, d.from);
         inside = d.inside;
-        put = fewer q (omega (arith, d.inside)) (inl refl);
+        put = rw ef (omega (arith, put_on (field_of k) f (p + 1) q x, i.put));
         word = ⊎_elim (λ z. inr (omega (arith, d.from), ap (λ (t : ℕ). get_or s t 0) z ∙ comma)) (λ z. inr (omega (arith, d.from), z.1)) i.word;
         lines = λ y a b z. go y a b z (dec_lt y p) (dec_lt p y);
         for = step;
@@ -212,9 +197,8 @@ taken-small (suc n) [] h (suc x) = omega arith
 taken-small (suc n) (c ∷ s) h zero = h 0
 taken-small (suc n) (c ∷ s) h (suc x) = taken-small n s (λ y. h (suc y)) x
 
-module _ (s : Bytes) (k end n sh : ℕ) (f : Fields) (p rest j : ℕ) (i : QuickInv s k end n sh f p rest j) (over : n ≤ j) (lf : get_or s p 0 ≡ 10)
-    (bytes : (x : ℕ) → get_or s x 0 < 256) (word row : ℕ) (er : row ≡ get_or shapes word 0) (en : n ≡ row % 32) (es : sh ≡ row / 32) (ek : k ≡ get_or slots word 0) (pos : 0 < word)
-    (at : ℕ) (w : WordAt s at end word) where
+module _ (s : Bytes) (end : ℕ) (w : Coded) (r : Listed) (row-is : RowAs (row (word_of w)) r) (f : Fields) (p j : ℕ) (i : QuickInv s end r.fields.now f p j) (over : length r.fields.now ≤ j)
+    (lf : get_or s p 0 ≡ 10) (bytes : (x : ℕ) → get_or s x 0 < 256) (at : ℕ) (wa : WordAt s at end w) where
   abbrev line : Bytes
   line = take p s
 
@@ -225,123 +209,40 @@ module _ (s : Bytes) (k end n sh : ℕ) (f : Fields) (p rest j : ℕ) (i : Quick
   line-long = length-take-le p s in-sheet
 
   at-word : at ≤ end
-  at-word = w.stood.from
+  at-word = wa.stood.from
 
   at-line : at ≤ length line
   at-line = omega (arith, line-long, i.on, at-word)
 
   word-ends : Ends 44 line at end
-  word-ends = cut-ends s at end p w.stood in-sheet i.word
+  word-ends = cut-ends s at end p wa.stood in-sheet i.word
 
   line-ends : Ends 10 s at p
   line-ends = ends_at 10 s at p (omega (arith, i.on, at-word)) in-sheet (λ x a b z. go x a b z (dec_lt x end)) (λ q. lf)
     where
       go : (x : ℕ) → at ≤ x → x < p → get_or s x 0 ≡ 10 → Dec (x < end) → ⊥
-      go x a b z (yes l) = (w.stood.clean x a l).1 z
+      go x a b z (yes l) = (wa.stood.clean x a l).1 z
       go x a b z (no l) = i.lines x (omega arith) b z
 
   nothing_left : pieces line (p + 1) ≡ []
   nothing_left = pieces-past line (p + 1) (omega (arith, line-long))
 
-  counted : suc n ≡ length (split 44 (drop at line))
+  counted : suc (length r.fields.now) ≡ length (split 44 (drop at line))
   counted =
       omega
       (arith, i.upto, i.many p in-sheet (inl refl), ap length nothing_left, ap length (sym (pieces-in line at at-line) ∙ pieces_step line at end at-line word-ends))
 
-  spelled : word ≡ number_in (code_from 1 (take (end - at) (drop at line))) words
-  spelled = w.number ∙ ap (λ (t : Bytes). number_in (code_from 1 t) words) (sym (slice-take at end p s i.on) ∙ sym (part_slice at end line))
+  spelled : word_at (code_from 1 (take (end - at) (drop at line))) words ≡ some (word_of w)
+  spelled = ap (λ (t : Bytes). word_at (code_from 1 t) words) (part_slice at end line ∙ slice-take at end p s i.on) ∙ wa.spelled
 
-  filled : (v : Word) → FilledAs line k (fill (bare v) (fields_of (row % 32) (row / 32)) (pieces line (end + 1))) (record { why = 0; fields = f })
-  filled v =
-      let x : FilledAs line k (fill (bare v) (fields_of n sh) (pieces line (end + 1))) (record { why = 0; fields = f })
-      = field_end line k (end + 1) n sh f (p + 1) rest j v (i.for p in-sheet (inl refl) v) over nothing_left in
-      rw (en, es) at x
+  filled : FilledAs line (fill (bare (word_of w)) (map field_of r.fields.now) (pieces line (end + 1))) (Ok f)
+  filled = field_end line (end + 1) r.fields.now f (p + 1) j (word_of w) (i.for p in-sheet (inl refl) (word_of w)) over nothing_left
 
-  pub quick-end : ReadAs s at (seen_as word 0 (p + 1) f) (split 10 (drop at s))
+  pub quick-end : ReadAs s at (Ok (seen_as w (under_of r.under) (p + 1) f)) (split 10 (drop at s))
   quick-end =
-      read-line s at p line-ends i.inside (seen_as word 0 (p + 1) f) refl
-      (read-filled line at end at-line word-ends (taken-small p s bytes) _ word refl spelled (λ z. omega arith) row n er counted en (record { why = 0; fields = f }) k ek filled (p + 1))
+      read-line s at p line-ends i.inside (Ok (seen_as w (under_of r.under) (p + 1) f)) refl
+      (read-good line at end at-line word-ends (taken-small p s bytes) w spelled (length r.fields.now) counted r row-is refl f filled (p + 1))
 
--- a line of one field
-pub quick-one : (s : Bytes) (k end sh : ℕ) → sh < 32 → end < length s → get_or s end 0 ≡ 44 → (q x : ℕ) → Stood s (end + 1) q
-    → record { why = 0; n = x } ≡ val_of (value_at (field_of sh) 0 (slice (end + 1) q s)) → (f' : Fields) → f' ≡ stored_in (field_of sh) nothing_yet k (end + 1) q x
-    → QuickInv s k end 1 sh f' q (sh / 32) 1
-quick-one s k end sh small inside comma q x d er f' ef =
-    let z : sh % 32 ≡ sh = omega arith in
-    quick-on s k end 1 sh nothing_yet end sh 0 (quick-start s k end 1 sh nothing_yet refl (omega arith) inside) (omega arith) comma q x d (rw z er) f' (rw z ef)
-
--- the line, if it is closed
-pub quick-closed : (s : Bytes) (k end n sh : ℕ) (f : Fields) (p rest j : ℕ) → QuickInv s k end n sh f p rest j → n ≤ j → ((x : ℕ) → get_or s x 0 < 256)
-    → (word row : ℕ) → row ≡ get_or shapes word 0 → n ≡ row % 32 → sh ≡ row / 32 → k ≡ get_or slots word 0 → 0 < word
-    → (r : Seen) → ClosedAs s p word f r → QuickBehind s end word r
-quick-closed s k end n sh f p rest j i over bytes word row er en es ek pos r cl at w z =
-    let c = cl z in
-    rw c.1 (quick-end s k end n sh f p rest j i over c.0 bytes word row er en es ek pos at w)
-
--- a name is stored wherever flag number and count stand
-pub name-stored : (f : Fields) (k k' p q n : ℕ) → stored_in (field_of 9) f k p q n ≡ stored_in (field_of 9) f k' p q n
-unfolding stored_in field_of
-name-stored f k k' p q n = refl
-
--- a line of no field
-pub quick-bare : (s : Bytes) (end word : ℕ) (f : Fields) → f ≡ nothing_yet → end < length s → ((x : ℕ) → get_or s x 0 < 256) → (sl : ℕ) → RowIs word 0 sl
-    → (r : Seen) → ClosedAs s end word f r → QuickBehind s end word r
-quick-bare s end word f e inside bytes sl row r cl =
-    quick-closed s sl end 0 0 f end 0 0 (quick-start s sl end 0 0 f e (omega arith) inside) (omega arith) bytes word 0 row.2 (omega arith) (omega arith) row.3 row.1 r cl
-
--- ## The row
-
-number-less : (c : ℕ) (vs : List Word) → number_in c vs < 64
-unfolding number_in
-number-less c [] = omega arith
-number-less c (v ∷ vs) = go (eqb c (code_from 1 (text (row v).spelled))) (number-less c vs)
-  where
-    go : (b : Bool) → number_in c vs < 64 → elim b [ true ↦ word_no v | false ↦ number_in c vs ] < 64
-    go true ih = (word-range v).1
-    go false ih = ih
-
-pub number-code : (c : ℕ) → 0 < number_in c words → 0 < c
-unfolding number_in code_from text row word_no
-number-code zero h = absurd (let z : 0 < 0 = h in omega arith)
-number-code (suc c) h = omega arith
-
-pub quick-lead : (s : Bytes) (at : ℕ) (r : Lead) → LeadAs s at r → (x : ℕ) → x ≡ row_in r.code words → 0 < x % 64
-    → WordAt s at r.end (x % 64) × RowIs (x % 64) (x / 4096) (x / 64 % 64)
-quick-lead s at r l x e pos =
-    let n : ℕ = number_in r.code words in
-    let less : n < 64 = number-less r.code words in
-    let w : x % 64 ≡ n = omega (arith, e) in
-    let g : x / 64 ≡ get_or field_rows n 0 = omega (arith, e) in
-    let d = l (number-code r.code (omega arith)) in
-    let a : x / 4096 ≡ get_or shapes n 0 = omega (arith, g, shapes-at n) in
-    let b : x / 64 % 64 ≡ get_or slots n 0 = ap (λ (y : ℕ). y % 64) g ∙ slots_at n in (
-      record { stood = d.0; number = w ∙ ap (λ (y : ℕ). number_in y words) d.1 },
-      (omega arith, pos, a ∙ ap (λ (y : ℕ). get_or shapes y 0) (sym w), b ∙ ap (λ (y : ℕ). get_or slots y 0) (sym w)),
-    )
-
--- ## The words of one field that is a number
-
-is_single : ℕ → Bool
-is_single x = cond (ltb x 257) (cond (eqb x 0) true (eqb (x % 32) 1)) true
-
-are_single : List ℕ → Bool
-are_single [] = true
-are_single (x ∷ xs) = is_single x && are_single xs
-
-single-at : (xs : List ℕ) → are_single xs ≡ true → (w : ℕ) → is_single (get_or xs w 0) ≡ true
-unfolding are_single is_single
-single-at [] e zero = refl
-single-at [] e (suc w) = refl
-single-at (x ∷ xs) e zero = both_l (is_single x) (are_single xs) e
-single-at (x ∷ xs) e (suc w) = single-at xs (both_r (is_single x) (are_single xs) e) w
-
-all-single : are_single shapes ≡ true
-unfolding are_single is_single shapes numbered row field_no field_nos
-all-single = refl
-
-pub one_field : (x w : ℕ) → x ≡ get_or shapes w 0 → 0 < x → x < 257 → 1 + 32 * (x / 32) ≡ x
-unfolding is_single
-one_field x w e h k =
-    let y : is_single x ≡ true = rw e (single-at shapes all-single w) in
-    let z : eqb (x % 32) 1 ≡ true = rw (lt-ltb x 257 k, ne_eqb x 0 (λ d. omega arith)) at y in
-    omega (arith, eqb-true (x % 32) 1 z)
+-- a word that was found by its letters
+pub word-lead : (s : Bytes) (at : ℕ) (r : Lead) (w : Coded) → LeadAs s at (Some r) → word_at r.code words ≡ some (word_of w) → WordAt s at r.end w
+word-lead s at r w d e = record { stood = d.0; spelled = ap (λ (c : ℕ). word_at c words) (sym d.1) ∙ e }

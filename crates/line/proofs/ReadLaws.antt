@@ -3,25 +3,30 @@ use mathlib.Core.Path.{◌≡◌, refl, sym, ◌∙◌, ap}
 use mathlib.Core.List.{List, [], ◌∷◌, ◌++◌, append_assoc, append-nil}
 use mathlib.Core.Option.{Option, none, some}
 use mathlib.Core.Bool.{Bool, true, false, ◌&&◌}
-use Prim.Native.Nat.{ℕ, suc, zero, ◌+◌, ◌-◌, ◌/◌, ◌%◌, ◌≤◌, ◌<◌}
+use Prim.Native.Nat.{ℕ, suc, zero, ◌+◌, ◌-◌, ◌≤◌, ◌<◌}
 use native.Mathlib.Omega.{arith}
 use lib.Dec.{eqb}
-use lib.ListN.{length, get_or, take, drop}
+use lib.ListN.{length, get_or, take, drop, length-map}
 use lib.Seq.{slice, take-take, length-take-le}
 use borrow.Author.Tests.{ne_eqb, eq-eqb}
 use Rattle.semantics.specs.Bytes.{Bytes, split, unhex}
 use Rattle.semantics.proofs.All.{empty, also, all_take, all_drop}
-use Rattle.semantics.specs.Sheet.{Word, Head, Field, range, variable, optional, name, alias, bound, letter, signed, float, Value, wrong, number, variable_v, name_v, alias_v, value, Read, bad, ok, into, fill, bare, row, rank, words, word_in, Want, fits, beyond, and_then, read_fields, read_as, read_pieces, read_line}
+use Rattle.semantics.specs.Sheet.{Word, Head, Field, range, variable, optional, name, alias, bound, letter, signed, float, Value, wrong, number, variable_v, name_v, alias_v, value, Read, bad, ok, into, fill, bare, row, rank, Shape, words, word_in, Want, fits, beyond, and_then, read_fields, read_as, read_pieces, read_line}
+use Rattle.std.specs.Prelude.{map, Option as Maybe, Some, None, Result, Ok, Err}
+use Rattle.semantics.specs.declared.refusals.Refusal.{Refusal}
+use Rattle.semantics.specs.declared.refusals.Refusal.TheVariants.{BadlyWritten}
+use Rattle.line.specs.declared.words.Word.{Word as Coded}
+use Rattle.line.specs.declared.rows.Row.{Row as Listed}
 use Rattle.line.specs.declared.field.Fields.{Fields}
-use Rattle.line.specs.declared.line.Filled.{Filled}
 use Rattle.line.specs.declared.line.Head.{Head as Seen}
-use Rattle.line.specs.Arrays.{shapes, slots}
-use Rattle.line.specs.Rows.{word_no, code_from, number_in, number_of}
-use Rattle.line.specs.Fields.{fields_of, clip, Agrees}
-use Rattle.line.specs.Line.{pieces, FilledAs, Plain, unknown, known, word_says, pieces_say, line_says, placed, most, Ranged, flag_of, count_of, HeadIs, SaysAs, ReadAs, seen_as}
+use Rattle.line.specs.declared.line.BadLine.{BadLine}
+use Rattle.line.specs.Words.{word_of, field_of, under_of}
+use Rattle.line.specs.Rows.{code_from, word_at, RowAs}
+use Rattle.line.specs.Fields.{clip, number_at, Agrees}
+use Rattle.line.specs.Line.{pieces, FilledAs, Plain, unknown, known, word_says, pieces_say, line_says, placed, most, Ranged, flag_at, count_at, flag_of, count_of, HeadIs, SaysAs, ReadAs, next_of, seen_as}
 use Rattle.line.specs.Opening.{WordIs}
-use Rattle.line.proofs.Words.{Small, number_word}
-use Rattle.line.proofs.Rows.{shape-rule, count-rule, word-range, flag-rule, counted-rule, num-rule}
+use Rattle.line.proofs.WordLaws.{Small, found-word}
+use Rattle.line.proofs.RowLaws.{most_at, flag-rule, counted-rule, num-rule}
 use Rattle.line.proofs.FillLaws.{Says, says, faulty, in_range, a_bound, a_letter, a_signed, a_variable, some_variable, no_variable, a_name, a_float, an_alias, no_alias, value-at}
 use Rattle.line.proofs.LineLaws.{pieces-in, pieces_step, split-some}
 use Rattle.text.specs.Text.{Ends}
@@ -157,20 +162,29 @@ fill-ranged v xs h e i = go h.word h.nums f.word f.nums
 clip-off : (n m b : ℕ) → n ≡ clip m → m ≤ b → b ≤ 18446744073709551615 → n ≡ m
 clip-off n m b e h g = omega arith
 
-head-is : (s : Bytes) (f : Fields) (word why next : ℕ) (h : Head) → word ≡ word_no h.word → why ≡ 0 → Agrees s (get_or slots word 0) f h → Ranged h
-    → HeadIs s (seen_as word why next f) h
+-- the number at an index
+number-clip : (xs ns : List ℕ) → ((i : ℕ) → get_or xs i 0 ≡ clip (get_or ns i 0)) → (o : Maybe ℕ) → number_at xs o ≡ clip (number_at ns o)
+number-clip xs ns e None = refl
+number-clip xs ns e (Some i) = e i
+
+number-most : (ns : List ℕ) (fs : List Field) → ((i : ℕ) → get_or ns i 0 ≤ most fs i) → (o : Maybe ℕ) → number_at ns o ≤ most_at fs o
+number-most ns fs h None = omega arith
+number-most ns fs h (Some i) = h i
+
+head-is : (s : Bytes) (f : Fields) (w : Coded) (u : Shape) (next : ℕ) (h : Head) → word_of w ≡ h.word → u ≡ (row h.word).under → Agrees s f h → Ranged h
+    → HeadIs s (seen_as w u next f) h
 unfolding flag_of count_of
-head-is s f word why next h ew ey a r =
-    let b : Agrees s (get_or slots (word_no h.word) 0) f h = rw ew at a in
+head-is s f w u next h ew eu a r =
+    let fs : List Field = (row h.word).fields in
+    let uh : Shape = (row h.word).under in
     record {
       word = ew;
-      why = ey;
-      var = b.var;
-      num = clip-off _ _ _ b.num (r 0) (num-rule h.word);
-      flag = clip-off _ _ _ b.flag (r (get_or slots (word_no h.word) 0 % 8)) (omega (arith, flag-rule h.word));
-      count = clip-off _ _ _ b.count (r (get_or slots (word_no h.word) 0 / 8)) (omega (arith, counted-rule h.word));
-      name = b.name;
-      within = b.within;
+      var = a.var;
+      num = clip-off _ _ _ (a.nums 0) (r 0) (num-rule h.word);
+      flag = rw eu (clip-off _ _ _ (number-clip f.nums h.nums a.nums (flag_at uh)) (number-most h.nums fs r (flag_at uh)) (omega (arith, flag-rule h.word)));
+      count = rw eu (clip-off _ _ _ (number-clip f.nums h.nums a.nums (count_at uh)) (number-most h.nums fs r (count_at uh)) (omega (arith, counted-rule h.word)));
+      name = a.name;
+      within = a.within;
       ranged = r;
     }
 
@@ -180,104 +194,98 @@ pub small_all : (s : Bytes) → ((i : ℕ) → get_or s i 0 < 256) → Small s
 small_all [] h = empty
 small_all (c ∷ s) h = also (h 0) (small_all s (λ i. h (suc i)))
 
-known-word : (o : Option Word) (w : ℕ) → w ≡ number_of o → (w ≡ 0 → ⊥) → (v : Word) × (o ≡ some v) × (w ≡ word_no v)
-known-word none w e h = absurd (h e)
-known-word (some v) w e h = (v, refl, e)
-
-no_such : (o : Option Word) (w : ℕ) → w ≡ number_of o → w ≡ 0 → o ≡ none
-no_such none w e z = refl
-no_such (some v) w e z = absurd (omega (arith, (word-range v).0))
-
-word-less : (o : Option Word) (w : ℕ) → w ≡ number_of o → w < 64
-word-less none w e = omega arith
-word-less (some v) w e = omega (arith, (word-range v).1)
-
-module _ (s : Bytes) (at q : ℕ) (inside : at ≤ length s) (e : Ends 44 s at q) (small : (i : ℕ) → get_or s i 0 < 256)
-    (code word : ℕ) (ec : code ≡ code_from 1 (take (q - at) (drop at s))) (ew : word ≡ number_in code words) where
+module _ (s : Bytes) (at q : ℕ) (inside : at ≤ length s) (e : Ends 44 s at q) (small : (i : ℕ) → get_or s i 0 < 256) where
   abbrev first : Bytes
   first = slice at q s
 
-  abbrev found : Option Word
-  found = word_in first words
-
-  word-is : word ≡ number_of found
-  word-is = ew ∙ ap (λ (c : ℕ). number_in c words) (ec ∙ ap (code_from 1) (part_slice at q s)) ∙ number_word first (all_drop at (all_take q (small_all s small)))
+  found-is : word_at (code_from 1 (take (q - at) (drop at s))) words ≡ word_in first words
+  found-is = ap (λ (t : Bytes). word_at (code_from 1 t) words) (part_slice at q s) ∙ found-word first (all_drop at (all_take q (small_all s small)))
 
   pieces_are : split 44 (drop at s) ≡ first ∷ pieces s (q + 1)
   pieces_are = sym (pieces-in s at inside) ∙ pieces_step s at q inside e
 
-  says_is : line_says (drop at s) ≡ word_says found (pieces s (q + 1))
+  says_is : line_says (drop at s) ≡ word_says (word_in first words) (pieces s (q + 1))
   unfolding line_says pieces_say
   says_is = rw (pieces_are, pieces_say)
 
-  pub word_small : word < 64
-  word_small = word-less found word word-is
-
-  pub read-unknown : word ≡ 0 → (r : Seen) → r.word ≡ 0 → SaysAs s r (line_says (drop at s))
+  pub read-unknown : word_at (code_from 1 (take (q - at) (drop at s))) words ≡ none → (why : Refusal) (next : ℕ) → SaysAs s (Err (record { word = None; why = why; next = next })) (line_says (drop at s))
   unfolding word_says
-  read-unknown z r h = rw (says_is, no_such found word word-is z, word_says) h
+  read-unknown z why next = rw (says_is, sym found-is ∙ z, word_says) refl
 
-  pub word-says : (word ≡ 0 → ⊥) → WordIs word (line_says (drop at s))
-  unfolding word_says
-  word-says h = let t = known-word found word word-is h in rw (says_is, t.1, word_says) t.2
-
-  module _ (some_word : word ≡ 0 → ⊥) (sh n : ℕ) (es : sh ≡ get_or shapes word 0) (en : suc n ≡ length (split 44 (drop at s))) where
-    abbrev the : (v : Word) × (found ≡ some v) × (word ≡ word_no v)
-    the = known-word found word word-is some_word
-
+  module _ (w : Coded) (known-word : word_at (code_from 1 (take (q - at) (drop at s))) words ≡ some (word_of w)) where
     abbrev v : Word
-    v = the.0
+    v = word_of w
 
-    shape_is : sh ≡ get_or shapes (word_no v) 0
-    shape_is = es ∙ ap (λ (w : ℕ). get_or shapes w 0) the.2
+    found : word_in first words ≡ some v
+    found = sym found-is ∙ known-word
 
-    many_is : length (pieces s (q + 1)) ≡ n
-    many_is = omega (arith, en, ap length pieces_are)
-
-    rule-is : length (row v).fields ≡ sh % 32
-    rule-is = count-rule v ∙ ap (λ (k : ℕ). k % 32) (sym shape_is)
-
-    pub read_count : (n ≡ sh % 32 → ⊥) → (r : Seen) → r.word ≡ word → r.why ≡ 3 → SaysAs s r (line_says (drop at s))
+    pub word-says : WordIs (Some w) (line_says (drop at s))
     unfolding word_says
-    read_count h r rw' ry =
-        rw (says_is, the.1, ne_eqb (length (pieces s (q + 1))) (length (row v).fields) (λ d. h (omega (arith, many_is, rule-is))), word_says)
-        (rw' ∙ the.2, ry, omega arith)
+    word-says = rw (says_is, found, word_says) refl
 
-    pub read-many : n ≡ sh % 32 → length (pieces s (q + 1)) ≡ sh % 32
-    read-many h = many_is ∙ h
+    module _ (n : ℕ) (en : suc n ≡ length (split 44 (drop at s))) (r : Listed) (row-is : RowAs (row (word_of w)) r) where
+      many_is : length (pieces s (q + 1)) ≡ n
+      many_is = omega (arith, en, ap length pieces_are)
 
-    pub read-filled : n ≡ sh % 32 → (f : Filled) (sl : ℕ) → sl ≡ get_or slots word 0 → ((v : Word) → FilledAs s sl (fill (bare v) (fields_of (sh % 32) (sh / 32)) (pieces s (q + 1))) f)
-        → (next : ℕ) → SaysAs s (seen_as word f.why next f.fields) (line_says (drop at s))
-    unfolding word_says
-    read-filled h f sl esl each next =
-        rw (says_is, the.1, eq-eqb (length (pieces s (q + 1))) (length (row v).fields) (many_is ∙ h ∙ sym rule-is), word_says)
-        (go (fill (bare v) (row v).fields (pieces s (q + 1))) refl filled)
-      where
-        filled : FilledAs s (get_or slots word 0) (fill (bare v) (row v).fields (pieces s (q + 1))) f
-        filled = rw (ap (λ (k : ℕ). fields_of (k % 32) (k / 32)) shape_is ∙ shape-rule v) at (rw esl at (each v))
+      rule-is : length (row v).fields ≡ length r.fields.now
+      rule-is = ap length (sym row-is.fields) ∙ length-map r.fields.now field_of
 
-        go : (r : Read) → fill (bare v) (row v).fields (pieces s (q + 1)) ≡ r → FilledAs s (get_or slots word 0) r f → SaysAs s (seen_as word f.why next f.fields) (known v r)
-        go (bad c) d x = (the.2, x.0, x.1)
-        go (ok k) d x =
-            let vk : v ≡ k.word = fill-word v (pieces s (q + 1)) k d in
-            (vk, head-is s f.fields word f.why next k (the.2 ∙ ap word_no vk) x.0 x.1 (fill-ranged v (pieces s (q + 1)) k d))
+      pub read_count : (n ≡ length r.fields.now → ⊥) → (next : ℕ) → SaysAs s (Err (record { word = Some w; why = BadlyWritten; next = next })) (line_says (drop at s))
+      unfolding word_says
+      read_count h next =
+          rw (says_is, found, ne_eqb (length (pieces s (q + 1))) (length (row v).fields) (λ d. h (omega (arith, many_is, rule-is))), word_says)
+          (refl, refl)
+
+      module _ (h : n ≡ length r.fields.now) where
+        pub read-many : length (pieces s (q + 1)) ≡ length r.fields.now
+        read-many = many_is ∙ h
+
+        all-of : length (pieces s (q + 1)) ≡ length (row v).fields
+        all-of = read-many ∙ sym rule-is
+
+        pub read-bad : (why : Refusal) → FilledAs s (fill (bare v) (map field_of r.fields.now) (pieces s (q + 1))) (Err why)
+            → (next : ℕ) → SaysAs s (Err (record { word = Some w; why = why; next = next })) (line_says (drop at s))
+        unfolding word_says
+        read-bad why x next =
+            rw (says_is, found, eq-eqb (length (pieces s (q + 1))) (length (row v).fields) all-of, word_says)
+            (go (fill (bare v) (row v).fields (pieces s (q + 1))) (rw row-is.fields at x))
+          where
+            go : (p : Read) → FilledAs s p (Err why) → SaysAs s (Err (record { word = Some w; why = why; next = next })) (known v p)
+            go (bad c) y = (refl, y)
+            go (ok k) y = elim y [ ]
+
+        pub read-good : (f : Fields) → FilledAs s (fill (bare v) (map field_of r.fields.now) (pieces s (q + 1))) (Ok f)
+            → (next : ℕ) → SaysAs s (Ok (seen_as w (under_of r.under) next f)) (line_says (drop at s))
+        unfolding word_says
+        read-good f x next =
+            rw (says_is, found, eq-eqb (length (pieces s (q + 1))) (length (row v).fields) all-of, word_says)
+            (go (fill (bare v) (row v).fields (pieces s (q + 1))) refl (rw row-is.fields at x))
+          where
+            go : (p : Read) → fill (bare v) (row v).fields (pieces s (q + 1)) ≡ p → FilledAs s p (Ok f) → SaysAs s (Ok (seen_as w (under_of r.under) next f)) (known v p)
+            go (bad c) d y = elim y [ ]
+            go (ok k) d y =
+                let vk : v ≡ k.word = fill-word v (pieces s (q + 1)) k d in
+                (vk, head-is s f w (under_of r.under) next k vk (row-is.under ∙ ap (λ (z : Word). (row z).under) vk) y (fill-ranged v (pieces s (q + 1)) k d))
 
 -- ## A line of a sheet
 
 -- the name of a line stands in the sheet
-wider : (s : Bytes) (end : ℕ) → end ≤ length s → (r : Seen) (p : Plain) → SaysAs (take end s) r p → SaysAs s r p
-wider s end l r unknown x = x
-wider s end l r (known v (bad c)) x = x
-wider s end l r (known v (ok h)) x =
+wider : (s : Bytes) (end : ℕ) → end ≤ length s → (r : Result Seen BadLine) (p : Plain) → SaysAs (take end s) r p → SaysAs s r p
+wider s end l (Ok r) unknown x = x
+wider s end l (Err b) unknown x = x
+wider s end l (Ok r) (known v (bad c)) x = x
+wider s end l (Err b) (known v (bad c)) x = x
+wider s end l (Err b) (known v (ok h)) x = x
+wider s end l (Ok r) (known v (ok h)) x =
     let y = x.1 in
     let n : length (take end s) ≡ end = length-take-le end s l in
     let t : take r.stop (take end s) ≡ take r.stop s = take-take r.stop end s (omega (arith, y.within, n)) in
-    (x.0, record { word = y.word; why = y.why; var = y.var; num = y.num; flag = y.flag; count = y.count; name = ap (λ (z : Bytes). unhex (drop r.name z)) (sym t) ∙ y.name; within = omega (arith, y.within, n); ranged = y.ranged })
+    (x.0, record { word = y.word; var = y.var; num = y.num; flag = y.flag; count = y.count; name = ap (λ (z : Bytes). unhex (drop r.name z)) (sym t) ∙ y.name; within = omega (arith, y.within, n); ranged = y.ranged })
 
-pub read-cut : (s : Bytes) (at end : ℕ) → Ends 10 s at end → length s ≤ end → (r : Seen) → r.word ≡ 0 → ReadAs s at r (split 10 (drop at s))
-read-cut s at end e h r z = rw (e.last h) z
+pub read-cut : (s : Bytes) (at end : ℕ) → Ends 10 s at end → length s ≤ end → (why : Refusal) (next : ℕ) → ReadAs s at (Err (record { word = None; why = why; next = next })) (split 10 (drop at s))
+read-cut s at end e h why next = rw (e.last h) refl
 
-pub read-line : (s : Bytes) (at end : ℕ) → Ends 10 s at end → end < length s → (r : Seen) → r.next ≡ end + 1
+pub read-line : (s : Bytes) (at end : ℕ) → Ends 10 s at end → end < length s → (r : Result Seen BadLine) → next_of r ≡ end + 1
     → SaysAs (take end s) r (line_says (drop at (take end s))) → ReadAs s at r (split 10 (drop at s))
 read-line s at end e h r n x = rw (e.more h) (go (split 10 (drop (end + 1) s)) refl (split-some 10 (drop (end + 1) s)))
   where
@@ -285,6 +293,6 @@ read-line s at end e h r n x = rw (e.more h) (go (split 10 (drop (end + 1) s)) r
     go [] d l = absurd (omega arith)
     go (l' ∷ ls) d l = (rw n (sym d), omega (arith, e.from), omega arith, wider s end (omega arith) r (line_says (drop at (take end s))) x)
 
-pub read_whole : (s : Bytes) (at end : ℕ) → Ends 10 s at end → end < length s → (r : Seen) → r.next ≡ end + 1
+pub read_whole : (s : Bytes) (at end : ℕ) → Ends 10 s at end → end < length s → (r : Result Seen BadLine) → next_of r ≡ end + 1
     → SaysAs (take (end - 0) (drop 0 s)) r (line_says (drop at (take (end - 0) (drop 0 s)))) → ReadAs s at r (split 10 (drop at s))
 read_whole s at end e h r n x = read-line s at end e h r n (rw (part_slice 0 end s) at x)

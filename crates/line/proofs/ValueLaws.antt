@@ -8,112 +8,103 @@ use native.Mathlib.Omega.{arith}
 use lib.Dec.{eqb, leb, ltb}
 use lib.ListN.{length, get_or, take, drop, length-map}
 use lib.Seq.{take_all}
-use borrow.Author.Tests.{eqb-true, eqb-false, ne_eqb, eq-eqb, le-leb, lt-leb, ltb-true, ltb-false}
+use borrow.Author.Tests.{ne_eqb, eq-eqb, le-leb, lt-leb, leb-true, ltb-true, ltb-false}
+use Rattle.std.specs.Prelude.{Result, Ok, Err}
 use Rattle.semantics.specs.Limits.{name_limit, variable_limit, bound_limit}
 use Rattle.semantics.specs.Bytes.{Bytes, same, decimal, unhex}
 use Rattle.semantics.proofs.Reader.{unhex-sound}
 use Rattle.semantics.proofs.Named.{Maybe, Digits}
 use Rattle.semantics.proofs.Split.{name_f}
-use Rattle.semantics.specs.Sheet.{optional, alias, is_dash, Value, wrong, number, variable_v, name_v, alias_v, within, named, lettered, signed_of, float_of, bound_of}
-use Rattle.text.specs.declared.Dec.{Dec as Num}
-use Rattle.text.specs.declared.Dec.TheVariants.{Is, Over, Bad}
-use Rattle.text.specs.Text.{dec_of, capped, is_found}
-use Rattle.line.specs.declared.field.Val.{Val}
-use Rattle.line.specs.Fields.{field_of, clip, val_of, why_of, num_of, value_at, name_n, negative_of, positive_of}
+use Rattle.semantics.proofs.Order.{same_refl, same-ne}
+use Rattle.semantics.specs.declared.refusals.Refusal.{Refusal}
+use Rattle.semantics.specs.declared.refusals.Refusal.TheVariants.{BadlyWritten, OutOfRange}
+use Rattle.semantics.specs.Sheet.{optional, alias, is_dash, Value, wrong, number, variable_v, name_v, alias_v, within, named, signed_of, float_of, bound_of}
+use Rattle.text.specs.declared.DecimalError.{DecimalError}
+use Rattle.text.specs.declared.DecimalError.TheVariants.{Bad, Over}
+use Rattle.text.specs.Text.{is_found, dec_of, capped, refusal_of}
+use Rattle.line.specs.Fields.{clip, val_of, said_of, decimal_of, value_at, negative_of, positive_of}
 
-abbrev val : ℕ → ℕ → Val
-val w n = record { why = w; n = n }
+-- ## A dash
+
+pub dash-not : (s : Bytes) → (length s ≡ 1 → ⊥) → false ≡ is_dash s
+dash-not s h = sym (same-ne {a = s} {b = 45 ∷ []} (λ e. h (ap length e)))
+
+pub dash-is : (s : Bytes) → length s ≡ 1 → get_or s 0 0 ≡ 45 → true ≡ is_dash s
+dash-is [] l e = absurd (omega arith)
+dash-is (c ∷ []) l e = sym (rw e (same_refl (45 ∷ [])))
+dash-is (c ∷ d ∷ s) l e = absurd (omega arith)
+
+pub dash-other : (s : Bytes) → (get_or s 0 0 ≡ 45 → ⊥) → false ≡ is_dash s
+dash-other s h = sym (same-ne {a = s} {b = 45 ∷ []} (λ e. h (ap (λ (t : Bytes). get_or t 0 0) e)))
 
 -- ## A decimal
 
-dec-none : (o : Option ℕ) → Bad ≡ dec_of o → o ≡ none
-unfolding dec_of capped
-dec-none none e = refl
-dec-none (some n) e = go (ltb n (2 ^ 64)) e
+-- a number that 64 bits hold, or not
+pub decimal-at : (o : Option ℕ) (n : ℕ) → Ok n ≡ decimal_of o → (o ≡ some n) × (n < 18446744073709551616)
+decimal-at none n e = absurd (let z : ⊥ = cc in z)
+decimal-at (some m) n e = go (ltb m (2 ^ 64)) refl e
   where
-    go : (b : Bool) → Bad ≡ cond b (Is n) Over → some n ≡ none
-    go true e = absurd (let z : ◌≡◌ {A = ℕ} 0 1 = cc in omega arith)
-    go false e = absurd (let z : ◌≡◌ {A = ℕ} 0 1 = cc in omega arith)
-
-dec-over : (o : Option ℕ) → Over ≡ dec_of o → (n : ℕ) × (o ≡ some n) × (18446744073709551616 ≤ n)
-unfolding dec_of capped
-dec-over none e = absurd (let z : ◌≡◌ {A = ℕ} 0 1 = cc in omega arith)
-dec-over (some n) e = go (ltb n (2 ^ 64)) refl e
-  where
-    go : (b : Bool) → ltb n (2 ^ 64) ≡ b → Over ≡ cond b (Is n) Over → (m : ℕ) × (some n ≡ some m) × (18446744073709551616 ≤ m)
-    go true d e = absurd (let z : ◌≡◌ {A = ℕ} 0 1 = cc in omega arith)
-    go false d e = (n, refl, omega (arith, ltb-false n (2 ^ 64) d))
-
-dec-is : (o : Option ℕ) (k : ℕ) → Is k ≡ dec_of o → (o ≡ some k) × (k < 18446744073709551616)
-unfolding dec_of capped
-dec-is none k e = absurd (let z : ◌≡◌ {A = ℕ} 0 1 = cc in omega arith)
-dec-is (some n) k e = go (ltb n (2 ^ 64)) refl e
-  where
-    go : (b : Bool) → ltb n (2 ^ 64) ≡ b → Is k ≡ cond b (Is n) Over → (some n ≡ some k) × (k < 18446744073709551616)
-    go true d e = let kn : k ≡ n = cc in (cc, omega (arith, ltb-true n (2 ^ 64) d))
-    go false d e = absurd (let z : ◌≡◌ {A = ℕ} 0 1 = cc in omega arith)
+    go : (b : Bool) → ltb m (2 ^ 64) ≡ b → Ok n ≡ elim b as (λ _. Result ℕ Refusal) [ true ↦ Ok m | false ↦ Err OutOfRange ] → (some m ≡ some n) × (n < 18446744073709551616)
+    go true d f = let k : n ≡ m = cc in (ap some (sym k), omega (arith, ltb-true m (2 ^ 64) d))
+    go false d f = absurd (let z : ⊥ = cc in z)
 
 within-out : (l m n : ℕ) (f : ℕ → Value) → (l ≤ n → n ≤ m → ⊥) → within l m (some n) f ≡ wrong 4
 unfolding within
 within-out l m n f h = go (leb l n) refl (leb n m) refl
   where
     go : (b : Bool) → leb l n ≡ b → (d : Bool) → leb n m ≡ d → elim (b && d) [ true ↦ f n | false ↦ wrong 4 ] ≡ wrong 4
-    go true e true g = absurd (h (borrow.Author.Tests.leb-true l n e) (borrow.Author.Tests.leb-true n m g))
+    go true e true g = absurd (h (leb-true l n e) (leb-true n m g))
     go true e false g = refl
     go false e d g = refl
 
-within_in : (l m n : ℕ) (f : ℕ → Value) → l ≤ n → n ≤ m → within l m (some n) f ≡ f n
+pub within_in : (l m n : ℕ) (f : ℕ → Value) → l ≤ n → n ≤ m → within l m (some n) f ≡ f n
 unfolding within
 within_in l m n f a b = rw (le-leb l n a, le-leb n m b, within)
 
-module _ (o : Option ℕ) (r : Num) (e : r ≡ dec_of o) (l m : ℕ) (f : ℕ → Value) where
-  pub read-bad : r ≡ Bad → val 3 0 ≡ val_of (within l m o f)
-  unfolding within
-  read-bad b = rw (dec-none o (sym b ∙ e))
+-- what is refused as a decimal is refused as a number of a range
+pub decimal-err : (o : Option ℕ) (l m : ℕ) (f : ℕ → Value) (e : Refusal) → m < 18446744073709551616 → Err e ≡ decimal_of o → Err e ≡ val_of (within l m o f)
+unfolding within
+decimal-err none l m f e h p = p
+decimal-err (some n) l m f e h p = go (ltb n (2 ^ 64)) refl p
+  where
+    go : (b : Bool) → ltb n (2 ^ 64) ≡ b → Err e ≡ elim b as (λ _. Result ℕ Refusal) [ true ↦ Ok n | false ↦ Err OutOfRange ] → Err e ≡ val_of (within l m (some n) f)
+    go true d q = absurd (let z : ⊥ = cc in z)
+    go false d q = q ∙ ap val_of (sym (within-out l m n f (λ a b. omega (arith, ltb-false n (2 ^ 64) d))))
 
-  pub read-over : m < 18446744073709551616 → r ≡ Over → val 4 0 ≡ val_of (within l m o f)
-  read-over small b =
-      let d = dec-over o (sym b ∙ e) in
-      rw (d.1, within-out l m d.0 f (λ p q. omega (arith, d.2)))
+pub decimal-out : (o : Option ℕ) (l m n : ℕ) (f : ℕ → Value) → Ok n ≡ decimal_of o → (l ≤ n → n ≤ m → ⊥) → Err OutOfRange ≡ val_of (within l m o f)
+decimal-out o l m n f e h = rw (decimal-at o n e).0 (ap val_of (sym (within-out l m n f h)))
 
-  pub read_out : (n : ℕ) → r ≡ Is n → (l ≤ n → n ≤ m → ⊥) → val 4 0 ≡ val_of (within l m o f)
-  read_out n b h = rw ((dec-is o n (sym b ∙ e)).0, within-out l m n f h)
+pub decimal-in : (o : Option ℕ) (l m n : ℕ) (f : ℕ → Value) → Ok n ≡ decimal_of o → l ≤ n → n ≤ m → val_of (f n) ≡ val_of (within l m o f)
+decimal-in o l m n f e p q = rw (decimal-at o n e).0 (ap val_of (sym (within_in l m n f p q)))
 
-  pub read-in : (n : ℕ) → r ≡ Is n → l ≤ n → n ≤ m → val_of (f n) ≡ val_of (within l m o f)
-  read-in n b p q = rw ((dec-is o n (sym b ∙ e)).0, within_in l m n f p q)
+pub decimal-number : (o : Option ℕ) (l m n : ℕ) → Ok n ≡ decimal_of o → l ≤ n → n ≤ m → Ok n ≡ val_of (within l m o number)
+decimal-number o l m n e p q =
+    let z : n ≡ clip n = omega (arith, (decimal-at o n e).1) in
+    ap Ok z ∙ decimal-in o l m n number e p q
 
--- the number itself
-pub read_number : (o : Option ℕ) (r : Num) → r ≡ dec_of o → (l m n : ℕ) → r ≡ Is n → l ≤ n → n ≤ m → val 0 n ≡ val_of (within l m o number)
-read_number o r e l m n b p q =
-    let z : n ≡ clip n = omega (arith, (dec-is o n (sym b ∙ e)).1) in
-    ap (val 0) z ∙ read-in o r e l m number n b p q
+-- a number of a range, and then something else of it
+pub within-err : (o : Option ℕ) (l m : ℕ) (f : ℕ → Value) (e : Refusal) → Err e ≡ val_of (within l m o number) → Err e ≡ val_of (within l m o f)
+unfolding within
+within-err none l m f e p = p
+within-err (some n) l m f e p = go (leb l n) (leb n m) p
+  where
+    go : (a b : Bool) → Err e ≡ val_of (elim (a && b) [ true ↦ number n | false ↦ wrong 4 ]) → Err e ≡ val_of (elim (a && b) [ true ↦ f n | false ↦ wrong 4 ])
+    go true true q = absurd (let z : ⊥ = cc in z)
+    go true false q = q
+    go false b q = q
 
--- numbers that are shifted
-abbrev neg_n : ℕ → Value
-neg_n n = elim (eqb n 0) [ true ↦ wrong 3 | false ↦ number (9223372036854775808 - n) ]
-
-module _ (o : Option ℕ) (r : Num) (e : r ≡ dec_of o) (n : ℕ) (b : r ≡ Is n) where
-  pub read-negative : n ≤ 9223372036854775808 → (n ≡ 0 → ⊥) → val 0 (9223372036854775808 - n) ≡ val_of (negative_of o)
-  read-negative q z =
-      let c : 9223372036854775808 - n ≡ clip (9223372036854775808 - n) = omega arith in
-      let f : number (9223372036854775808 - n) ≡ neg_n n = rw (ne_eqb n 0 z, neg_n) in
-      ap (val 0) c ∙ ap val_of f ∙ read-in o r e 0 9223372036854775808 neg_n n b (omega arith) q
-
-  pub read-minus-zero : n ≡ 0 → val 3 0 ≡ val_of (negative_of o)
-  read-minus-zero z =
-      let f : wrong 3 ≡ neg_n n = rw (eq-eqb n 0 z, neg_n) in
-      ap val_of f ∙ read-in o r e 0 9223372036854775808 neg_n n b (omega arith) (omega arith)
-
-  pub read-positive : n ≤ 9223372036854775807 → val 0 (9223372036854775808 + n) ≡ val_of (positive_of o)
-  read-positive q =
-      let c : 9223372036854775808 + n ≡ clip (9223372036854775808 + n) = omega arith in
-      ap (val 0) c ∙ read-in o r e 0 9223372036854775807 (λ k. number (9223372036854775808 + k)) n b (omega arith) q
-
-  pub read-bound : (m : ℕ) → m ≡ clip (suc n) → val 0 m ≡ val_of (within 0 bound_limit o (λ k. number (suc k)))
-  read-bound m c = ap (val 0) c ∙ read-in o r e 0 bound_limit (λ k. number (suc k)) n b (omega arith) (omega (arith, (dec-is o n (sym b ∙ e)).1))
-
-pub clip-small : (n : ℕ) → n < 18446744073709551616 → n ≡ clip n
-clip-small n h = omega arith
+pub within-then : (o : Option ℕ) (l m : ℕ) (f : ℕ → Value) (n : ℕ) → m < 18446744073709551616 → Ok n ≡ val_of (within l m o number) → (n ≤ m) × (val_of (f n) ≡ val_of (within l m o f))
+unfolding within
+within-then none l m f n h p = absurd (let z : ⊥ = cc in z)
+within-then (some k) l m f n h p = go (leb l k) (leb k m) refl p
+  where
+    go : (a b : Bool) → leb k m ≡ b → Ok n ≡ val_of (elim (a && b) [ true ↦ number k | false ↦ wrong 4 ]) → (n ≤ m) × (val_of (f n) ≡ val_of (elim (a && b) [ true ↦ f k | false ↦ wrong 4 ]))
+    go true true d q =
+        let w : n ≡ clip k = cc in
+        let z : n ≡ k = omega (arith, leb-true k m d) in
+        (omega (arith, leb-true k m d), ap (λ (i : ℕ). val_of (f i)) z)
+    go true false d q = absurd (let z : ⊥ = cc in z)
+    go false b d q = absurd (let z : ⊥ = cc in z)
 
 -- a variable's number is kept as it is
 pub var-number : (o : Option ℕ) → val_of (within 0 variable_limit o number) ≡ val_of (within 0 variable_limit o (λ v. variable_v (some v)))
@@ -123,57 +114,101 @@ var-number (some n) = go (leb n variable_limit) refl
   where
     go : (b : Bool) → leb n variable_limit ≡ b
         → val_of (elim (leb 0 n && b) [ true ↦ number n | false ↦ wrong 4 ]) ≡ val_of (elim (leb 0 n && b) [ true ↦ variable_v (some n) | false ↦ wrong 4 ])
-    go true e = rw (le-leb 0 n (omega arith)) (let z : clip n ≡ n = omega (arith, borrow.Author.Tests.leb-true n variable_limit e) in cc)
+    go true e = rw (le-leb 0 n (omega arith)) (let z : clip n ≡ n = omega (arith, leb-true n variable_limit e) in cc)
     go false e = rw (le-leb 0 n (omega arith))
 
-as-alias : (o : Option Bytes) → (why_of (named o name_v) ≡ why_of (named o alias_v)) × (name_n (named o name_v) 1 ≡ num_of (named o alias_v))
-unfolding named
-as-alias none = (refl, refl)
-as-alias (some ds) = go (eqb (length ds % 2) 0) (leb (length ds) (2 * name_limit))
-  where
-    go : (p q : Bool)
-        → (why_of (elim p [ true ↦ elim q [ true ↦ name_v ds | false ↦ wrong 4 ] | false ↦ wrong 3 ]) ≡ why_of (elim p [ true ↦ elim q [ true ↦ alias_v ds | false ↦ wrong 4 ] | false ↦ wrong 3 ]))
-        × (name_n (elim p [ true ↦ elim q [ true ↦ name_v ds | false ↦ wrong 4 ] | false ↦ wrong 3 ]) 1 ≡ num_of (elim p [ true ↦ elim q [ true ↦ alias_v ds | false ↦ wrong 4 ] | false ↦ wrong 3 ]))
-    go true true = (refl, refl)
-    go true false = (refl, refl)
-    go false q = (refl, refl)
+-- numbers that are shifted
+neg_n : ℕ → Value
+neg_n n = elim (eqb n 0) [ true ↦ wrong 3 | false ↦ number (9223372036854775808 - n) ]
+
+module _ (o : Option ℕ) (n : ℕ) (e : Ok n ≡ val_of (within 0 9223372036854775808 o number)) where
+  pub negative-small : n ≤ 9223372036854775808
+  negative-small = (within-then o 0 9223372036854775808 number n (omega arith) e).0
+
+  pub negative-in : (n ≡ 0 → ⊥) → Ok (9223372036854775808 - n) ≡ val_of (negative_of o)
+  unfolding neg_n
+  negative-in z =
+      let c : 9223372036854775808 - n ≡ clip (9223372036854775808 - n) = omega arith in
+      let f : number (9223372036854775808 - n) ≡ neg_n n = rw (ne_eqb n 0 z, neg_n) in
+      ap Ok c ∙ ap val_of f ∙ (within-then o 0 9223372036854775808 neg_n n (omega arith) e).1
+
+  pub negative-zero : n ≡ 0 → Err BadlyWritten ≡ val_of (negative_of o)
+  unfolding neg_n
+  negative-zero z =
+      let f : wrong 3 ≡ neg_n n = rw (eq-eqb n 0 z, neg_n) in
+      ap val_of f ∙ (within-then o 0 9223372036854775808 neg_n n (omega arith) e).1
+
+module _ (o : Option ℕ) (n : ℕ) (e : Ok n ≡ val_of (within 0 9223372036854775807 o number)) where
+  pub positive-small : n ≤ 9223372036854775807
+  positive-small = (within-then o 0 9223372036854775807 number n (omega arith) e).0
+
+  pub positive-in : Ok (9223372036854775808 + n) ≡ val_of (positive_of o)
+  positive-in =
+      let c : 9223372036854775808 + n ≡ clip (9223372036854775808 + n) = omega (arith, positive-small) in
+      ap Ok c ∙ (within-then o 0 9223372036854775807 (λ k. number (9223372036854775808 + k)) n (omega arith) e).1
 
 -- ## A dash first
 
 module _ (s : Bytes) where
-  pub bound-dash : (l : ℕ) (b : Bool) → b ≡ is_dash s → b ≡ true → val 0 0 ≡ val_of (bound_of l s)
+  pub bound-dash : (l : ℕ) → true ≡ is_dash s → Ok 0 ≡ val_of (bound_of l s)
   unfolding bound_of
-  bound-dash l b e t = rw (sym e ∙ t, bound_of)
+  bound-dash l e = rw (sym e, bound_of)
 
-  pub bound-none : (l : ℕ) (b : Bool) → b ≡ is_dash s → b ≡ false → l ≡ 0 → val 3 0 ≡ val_of (bound_of l s)
+  pub bound-none : (l : ℕ) → false ≡ is_dash s → l ≡ 0 → Err BadlyWritten ≡ val_of (bound_of l s)
   unfolding bound_of
-  bound-none l b e t z = rw (sym e ∙ t, z, bound_of)
+  bound-none l e z = rw (sym e, z, bound_of)
 
-  pub bound_some : (l : ℕ) (b : Bool) → b ≡ is_dash s → b ≡ false → (l ≡ 0 → ⊥) → within 0 bound_limit (decimal s) (λ n. number (suc n)) ≡ bound_of l s
+  pub bound_some : (l : ℕ) → false ≡ is_dash s → (l ≡ 0 → ⊥) → within 0 bound_limit (decimal s) (λ n. number (suc n)) ≡ bound_of l s
   unfolding bound_of
-  bound_some l b e t z = rw (sym e ∙ t, ne_eqb l 0 z, bound_of)
+  bound_some l e z = rw (sym e, ne_eqb l 0 z, bound_of)
 
-  pub optional-dash : (l : ℕ) (b : Bool) → b ≡ is_dash s → b ≡ true → val 0 0 ≡ val_of (value_at optional l s)
-  unfolding value_at
-  optional-dash l b e t = rw (sym e ∙ t, value_at)
+  pub bound-err : (l : ℕ) (why : Refusal) → false ≡ is_dash s → (l ≡ 0 → ⊥) → Err why ≡ decimal_of (decimal s) → Err why ≡ val_of (bound_of l s)
+  bound-err l why e z p = decimal-err (decimal s) 0 bound_limit (λ n. number (suc n)) why (omega arith) p ∙ ap val_of (bound_some l e z)
 
-  pub optional-some : (l : ℕ) (b : Bool) → b ≡ is_dash s → b ≡ false → val_of (within 0 variable_limit (decimal s) number) ≡ val_of (value_at optional l s)
-  unfolding value_at
-  optional-some l b e t = rw (sym e ∙ t, value_at) (var-number (decimal s))
+  pub bound-in : (l n m : ℕ) → false ≡ is_dash s → (l ≡ 0 → ⊥) → Ok n ≡ decimal_of (decimal s) → m ≡ clip (suc n) → Ok m ≡ val_of (bound_of l s)
+  bound-in l n m e z p c =
+      ap Ok c ∙ decimal-in (decimal s) 0 bound_limit n (λ k. number (suc k)) p (omega arith) (omega (arith, (decimal-at (decimal s) n p).1)) ∙ ap val_of (bound_some l e z)
 
-  pub alias-dash : (l : ℕ) (b : Bool) → b ≡ is_dash s → b ≡ true → val 0 0 ≡ val_of (value_at alias l s)
+  pub optional-dash : (l : ℕ) → true ≡ is_dash s → Ok 0 ≡ val_of (value_at optional l s)
   unfolding value_at
-  alias-dash l b e t = rw (sym e ∙ t, value_at)
+  optional-dash l e = rw (sym e, value_at)
 
-  pub alias-some : (l : ℕ) (b : Bool) (w n : ℕ) → b ≡ is_dash s → b ≡ false → w ≡ why_of (named (unhex s) name_v) → n ≡ name_n (named (unhex s) name_v) 1
-      → val w n ≡ val_of (value_at alias l s)
+  pub optional-some : (l : ℕ) → false ≡ is_dash s → val_of (within 0 variable_limit (decimal s) number) ≡ val_of (value_at optional l s)
   unfolding value_at
-  alias-some l b w n e t ew en = rw (sym e ∙ t, value_at) (let a = as-alias (unhex s) in cc (ew ∙ a.0, en ∙ a.1))
+  optional-some l e = rw (sym e, value_at) (var-number (decimal s))
+
+  pub alias-dash : (l : ℕ) → true ≡ is_dash s → Ok 0 ≡ val_of (value_at alias l s)
+  unfolding value_at
+  alias-dash l e = rw (sym e, value_at)
 
 -- ## A name
 
-abbrev NameIs : Bytes → ℕ → ℕ → ℕ → Type 0
-NameIs s n w m = (w ≡ why_of (named (unhex s) name_v)) × (m ≡ name_n (named (unhex s) name_v) n)
+-- a name says 0, an alias 1
+pub name-says : (o : Option Bytes) → said_of (named o name_v) 0 ≡ val_of (named o name_v)
+unfolding named
+name-says none = refl
+name-says (some ds) = go (eqb (length ds % 2) 0) (leb (length ds) (2 * name_limit))
+  where
+    go : (p q : Bool)
+        → said_of (elim p [ true ↦ elim q [ true ↦ name_v ds | false ↦ wrong 4 ] | false ↦ wrong 3 ]) 0 ≡ val_of (elim p [ true ↦ elim q [ true ↦ name_v ds | false ↦ wrong 4 ] | false ↦ wrong 3 ])
+    go true true = refl
+    go true false = refl
+    go false q = refl
+
+alias-says : (o : Option Bytes) → said_of (named o name_v) 1 ≡ val_of (named o alias_v)
+unfolding named
+alias-says none = refl
+alias-says (some ds) = go (eqb (length ds % 2) 0) (leb (length ds) (2 * name_limit))
+  where
+    go : (p q : Bool)
+        → said_of (elim p [ true ↦ elim q [ true ↦ name_v ds | false ↦ wrong 4 ] | false ↦ wrong 3 ]) 1 ≡ val_of (elim p [ true ↦ elim q [ true ↦ alias_v ds | false ↦ wrong 4 ] | false ↦ wrong 3 ])
+    go true true = refl
+    go true false = refl
+    go false q = refl
+
+pub alias-some : (s : Bytes) (l : ℕ) → false ≡ is_dash s → said_of (named (unhex s) name_v) 1 ≡ val_of (value_at alias l s)
+unfolding value_at
+alias-some s l e = rw (sym e, value_at) (alias-says (unhex s))
 
 -- a text's digits are as many as its bytes
 pub unhex-length : (s ds : Bytes) → unhex s ≡ some ds → length ds ≡ length s
@@ -191,78 +226,56 @@ some_is : (o : Option Bytes) → is_found o ≡ true → (ds : Bytes) × (o ≡ 
 some_is none e = absurd (let z : ◌≡◌ {A = ℕ} 0 1 = cc in omega arith)
 some_is (some ds) e = (ds, refl)
 
-module _ (s : Bytes) (b : Bool) (e : b ≡ is_found (unhex s)) where
-  pub name-bad : (n : ℕ) → b ≡ false → NameIs s n 3 0
+module _ (s : Bytes) (n : ℕ) where
+  pub name-bad : false ≡ is_found (unhex s) → Err BadlyWritten ≡ said_of (named (unhex s) name_v) n
   unfolding named
-  name-bad n f = rw (some-not (unhex s) (sym e ∙ f)) (refl, refl)
+  name-bad e = rw (some-not (unhex s) (sym e))
 
-  pub name-odd : (n : ℕ) → b ≡ true → (length s % 2 ≡ 0 → ⊥) → NameIs s n 3 0
-  unfolding named
-  name-odd n t h =
-      let d = some_is (unhex s) (sym e ∙ t) in
-      let l = unhex-length s d.0 d.1 in
-      rw (d.1, l, ne_eqb (length s % 2) 0 h, named) (refl, refl)
+  module _ (e : true ≡ is_found (unhex s)) where
+    pub name-odd : (length s % 2 ≡ 0 → ⊥) → Err BadlyWritten ≡ said_of (named (unhex s) name_v) n
+    unfolding named
+    name-odd h =
+        let d = some_is (unhex s) (sym e) in
+        let l = unhex-length s d.0 d.1 in
+        rw (d.1, l, ne_eqb (length s % 2) 0 h, named)
 
-  pub name-long : (n : ℕ) → b ≡ true → length s % 2 ≡ 0 → 510 < length s → NameIs s n 4 0
-  unfolding named
-  name-long n t h g =
-      let d = some_is (unhex s) (sym e ∙ t) in
-      let l = unhex-length s d.0 d.1 in
-      rw (d.1, l, eq-eqb (length s % 2) 0 h, l, lt-leb (length s) (2 * name_limit) g, named) (refl, refl)
+    pub name-long : length s % 2 ≡ 0 → 510 < length s → Err OutOfRange ≡ said_of (named (unhex s) name_v) n
+    unfolding named
+    name-long h g =
+        let d = some_is (unhex s) (sym e) in
+        let l = unhex-length s d.0 d.1 in
+        rw (d.1, l, eq-eqb (length s % 2) 0 h, l, lt-leb (length s) (2 * name_limit) g, named)
 
-  pub name-fine : (n : ℕ) → b ≡ true → length s % 2 ≡ 0 → length s ≤ 510 → NameIs s n 0 n
-  unfolding named
-  name-fine n t h g =
-      let d = some_is (unhex s) (sym e ∙ t) in
-      let l = unhex-length s d.0 d.1 in
-      rw (d.1, l, eq-eqb (length s % 2) 0 h, l, le-leb (length s) (2 * name_limit) g, named) (refl, refl)
+    pub name-fine : length s % 2 ≡ 0 → length s ≤ 510 → Ok n ≡ said_of (named (unhex s) name_v) n
+    unfolding named
+    name-fine h g =
+        let d = some_is (unhex s) (sym e) in
+        let l = unhex-length s d.0 d.1 in
+        rw (d.1, l, eq-eqb (length s % 2) 0 h, l, le-leb (length s) (2 * name_limit) g, named)
 
-  pub float-bad : b ≡ false → val 3 0 ≡ val_of (float_of (unhex s))
+module _ (s : Bytes) where
+  pub float-bad : false ≡ is_found (unhex s) → Err BadlyWritten ≡ val_of (float_of (unhex s))
   unfolding float_of
-  float-bad f = rw (some-not (unhex s) (sym e ∙ f))
+  float-bad e = rw (some-not (unhex s) (sym e))
 
-  pub float-fine : b ≡ true → length s ≡ 16 → val 0 0 ≡ val_of (float_of (unhex s))
+  pub float-fine : true ≡ is_found (unhex s) → length s ≡ 16 → Ok 0 ≡ val_of (float_of (unhex s))
   unfolding float_of
-  float-fine t h =
-      let d = some_is (unhex s) (sym e ∙ t) in
+  float-fine e h =
+      let d = some_is (unhex s) (sym e) in
       let l = unhex-length s d.0 d.1 in
       rw (d.1, l, h, float_of)
 
-pub float-length : (s : Bytes) → (length s ≡ 16 → ⊥) → val 3 0 ≡ val_of (float_of (unhex s))
-unfolding float_of
-float-length s h = go (unhex s) refl
-  where
-    go : (o : Option Bytes) → unhex s ≡ o → val 3 0 ≡ val_of (float_of (unhex s))
-    go none e = rw (e, float_of)
-    go (some ds) e = rw (e, unhex-length s ds e, ne_eqb (length s) 16 h, float_of)
-
--- ## A letter
-
-pub letter-length : (s : Bytes) → (length s ≡ 1 → ⊥) → val 3 0 ≡ val_of (lettered s)
-unfolding lettered
-letter-length [] h = refl
-letter-length (c ∷ []) h = absurd (h refl)
-letter-length (c ∷ d ∷ s) h = refl
-
-single : (s : Bytes) (c : ℕ) → length s ≡ 1 → get_or s 0 0 ≡ c → s ≡ c ∷ []
-single [] c l e = absurd (omega arith)
-single (x ∷ []) c l e = cc
-single (x ∷ y ∷ s) c l e = absurd (omega arith)
-
--- the four letters
-pub letter-is : (s : Bytes) (c n : ℕ) → length s ≡ 1 → get_or s 0 0 ≡ c → val 0 n ≡ val_of (lettered (c ∷ [])) → val 0 n ≡ val_of (lettered s)
-letter-is s c n l e h = rw (single s c l e) h
-
-pub letter-none : (s : Bytes) → length s ≡ 1 → (get_or s 0 0 ≡ 78 → ⊥) → (get_or s 0 0 ≡ 82 → ⊥) → (get_or s 0 0 ≡ 80 → ⊥) → (get_or s 0 0 ≡ 86 → ⊥)
-    → val 3 0 ≡ val_of (lettered s)
-unfolding lettered
-letter-none [] l a b c d = refl
-letter-none (x ∷ []) l a b c d = rw (ne_eqb x 78 a, ne_eqb x 82 b, ne_eqb x 80 c, ne_eqb x 86 d, lettered)
-letter-none (x ∷ y ∷ s) l a b c d = refl
+  pub float-length : (length s ≡ 16 → ⊥) → Err BadlyWritten ≡ val_of (float_of (unhex s))
+  unfolding float_of
+  float-length h = go (unhex s) refl
+    where
+      go : (o : Option Bytes) → unhex s ≡ o → Err BadlyWritten ≡ val_of (float_of (unhex s))
+      go none e = rw (e, float_of)
+      go (some ds) e = rw (e, unhex-length s ds e, ne_eqb (length s) 16 h, float_of)
 
 -- ## A signed number
 
-pub signed-empty : (s : Bytes) → length s ≡ 0 → val 3 0 ≡ val_of (signed_of s)
+pub signed-empty : (s : Bytes) → length s ≡ 0 → Err BadlyWritten ≡ val_of (signed_of s)
 unfolding signed_of
 signed-empty [] l = refl
 signed-empty (c ∷ s) l = absurd (omega arith)
@@ -277,73 +290,22 @@ unfolding signed_of
 signed-plain [] l e = absurd (omega arith)
 signed-plain (c ∷ s) l e = rw (ne_eqb c 45 e, signed_of)
 
--- ## By the shape
+-- ## A decimal as text reads it
 
-name-zero : (o : Option Bytes) → name_n (named o name_v) 0 ≡ num_of (named o name_v)
-unfolding named
-name-zero none = refl
-name-zero (some ds) = go (eqb (length ds % 2) 0) (leb (length ds) (2 * name_limit))
+pub decimal-read : (o : Option ℕ) (n : ℕ) → Ok n ≡ dec_of o → Ok n ≡ decimal_of o
+unfolding dec_of capped
+decimal-read none n e = absurd (let z : ⊥ = cc in z)
+decimal-read (some m) n e = go (ltb m (2 ^ 64)) e
   where
-    go : (p q : Bool)
-        → name_n (elim p [ true ↦ elim q [ true ↦ name_v ds | false ↦ wrong 4 ] | false ↦ wrong 3 ]) 0 ≡ num_of (elim p [ true ↦ elim q [ true ↦ name_v ds | false ↦ wrong 4 ] | false ↦ wrong 3 ])
-    go true true = refl
-    go true false = refl
-    go false q = refl
+    go : (b : Bool) → Ok n ≡ cond b (Ok m) (Err Over) → Ok n ≡ elim b as (λ _. Result ℕ Refusal) [ true ↦ Ok m | false ↦ Err OutOfRange ]
+    go true d = let z : n ≡ m = cc in ap Ok z
+    go false d = absurd (let z : ⊥ = cc in z)
 
-module _ (k l : ℕ) (s : Bytes) where
-  pub as-variable : k ≡ 7 → val_of (within 0 4294967295 (decimal s) number) ≡ val_of (value_at (field_of k) l s)
-  unfolding value_at field_of
-  as-variable e = rw e (var-number (decimal s))
-
-  pub as-optional : k ≡ 8 → val_of (value_at optional 0 s) ≡ val_of (value_at (field_of k) l s)
-  unfolding value_at field_of
-  as-optional e = rw e
-
-  pub as-name : (w n : ℕ) → NameIs s 0 w n → k ≡ 9 → val w n ≡ val_of (value_at (field_of k) l s)
-  unfolding value_at field_of
-  as-name w n h e = rw e (cc (h.0, h.1 ∙ name-zero (unhex s)))
-
-  pub as-aliased : k ≡ 10 → val_of (value_at alias 0 s) ≡ val_of (value_at (field_of k) l s)
-  unfolding value_at field_of
-  as-aliased e = rw e
-
-  pub as-float : k ≡ 14 → val_of (float_of (unhex s)) ≡ val_of (value_at (field_of k) l s)
-  unfolding value_at field_of
-  as-float e = rw e
-
-  pub as-bound : k ≡ 11 → val_of (bound_of l s) ≡ val_of (value_at (field_of k) l s)
-  unfolding value_at field_of
-  as-bound e = rw e
-
-  pub as-letter : k ≡ 12 → val_of (lettered s) ≡ val_of (value_at (field_of k) l s)
-  unfolding value_at field_of
-  as-letter e = rw e
-
-  pub as-signed : k ≡ 13 → val_of (signed_of s) ≡ val_of (value_at (field_of k) l s)
-  unfolding value_at field_of
-  as-signed e = rw e
-
-  pub as-two : k ≡ 2 → val_of (within 0 2 (decimal s) number) ≡ val_of (value_at (field_of k) l s)
-  unfolding value_at field_of
-  as-two e = rw e
-
-  pub as-three : k ≡ 3 → val_of (within 0 3 (decimal s) number) ≡ val_of (value_at (field_of k) l s)
-  unfolding value_at field_of
-  as-three e = rw e
-
-  pub as-operator : k ≡ 4 → val_of (within 0 19 (decimal s) number) ≡ val_of (value_at (field_of k) l s)
-  unfolding value_at field_of
-  as-operator e = rw e
-
-  pub as-count : k ≡ 5 → val_of (within 0 9999 (decimal s) number) ≡ val_of (value_at (field_of k) l s)
-  unfolding value_at field_of
-  as-count e = rw e
-
-  pub as-edition : k ≡ 6 → val_of (within 1 1 (decimal s) number) ≡ val_of (value_at (field_of k) l s)
-  unfolding value_at field_of
-  as-edition e = rw e
-
-  pub as-bit : (k ≡ 7 → ⊥) → (k ≡ 8 → ⊥) → (k ≡ 9 → ⊥) → (k ≡ 10 → ⊥) → (k ≡ 14 → ⊥) → (k ≡ 11 → ⊥) → (k ≡ 12 → ⊥) → (k ≡ 13 → ⊥) → (k ≡ 2 → ⊥) → (k ≡ 3 → ⊥) → (k ≡ 4 → ⊥) → (k ≡ 5 → ⊥) → (k ≡ 6 → ⊥)
-      → val_of (within 0 1 (decimal s) number) ≡ val_of (value_at (field_of k) l s)
-  unfolding value_at field_of
-  as-bit n7 n8 n9 n10 n14 n11 n12 n13 n2 n3 n4 n5 n6 = rw (ne_eqb k 7 n7, ne_eqb k 8 n8, ne_eqb k 9 n9, ne_eqb k 10 n10, ne_eqb k 14 n14, ne_eqb k 11 n11, ne_eqb k 12 n12, ne_eqb k 13 n13, ne_eqb k 2 n2, ne_eqb k 3 n3, ne_eqb k 4 n4, ne_eqb k 5 n5, ne_eqb k 6 n6, field_of)
+pub decimal-refused : (o : Option ℕ) (e : DecimalError) → Err e ≡ dec_of o → Err (refusal_of e) ≡ decimal_of o
+unfolding dec_of capped
+decimal-refused none e p = let z : e ≡ Bad = cc in ap (λ (d : DecimalError). Err (refusal_of d)) z
+decimal-refused (some m) e p = go (ltb m (2 ^ 64)) p
+  where
+    go : (b : Bool) → Err e ≡ cond b (Ok m) (Err Over) → Err (refusal_of e) ≡ elim b as (λ _. Result ℕ Refusal) [ true ↦ Ok m | false ↦ Err OutOfRange ]
+    go true d = absurd (let z : ⊥ = cc in z)
+    go false d = let z : e ≡ Over = cc in ap (λ (d : DecimalError). Err (refusal_of d)) z

@@ -1,14 +1,17 @@
 -- A line that is known to be fine: what stands where, so that a second reading tests only what it must.
-use Rattle.std.specs.Prelude.{◌≡◌, [], ◌∷◌, true, ℕ, ◌+◌, ◌≤◌, ◌<◌, length, get_or, drop}
+use Rattle.std.specs.Prelude.{◌≡◌, [], ◌∷◌, ℕ, ◌+◌, ◌≤◌, ◌<◌, length, get_or, drop, Ok}
 use Rattle.std.proofs.Math.Option.{some}
 use Rattle.std.proofs.Math.Seq.{slice}
 use Rattle.semantics.specs.Codes.{line_feed, dash, digit_zero}
-use Rattle.semantics.specs.Bytes.{Bytes, split, digits, unhex}
+use Rattle.semantics.specs.Bytes.{Bytes, split, digits}
 use Rattle.semantics.specs.Sheet.{Head, num, variable_of, rank, place, ok, number, lettered}
-use Rattle.text.specs.Text.{is_found}
-use Rattle.line.specs.Fields.{field_of, value_at, why_of, num_of}
-use Rattle.line.specs.Line.{known, line_says}
+use Rattle.line.specs.Words.{field_of}
+use Rattle.line.specs.Fields.{val_of, value_at}
+use Rattle.line.specs.Line.{known, line_says, HeadIs}
 use Rattle.line.specs.Quick.{Stood, WordAt}
+use Rattle.line.specs.declared.words.Word.{Word}
+use Rattle.line.specs.declared.shapes.Shape.{Shape}
+use Rattle.line.specs.declared.line.Head.{Head as Seen}
 use Rattle.line.specs.declared.in_place.Got.{Got}
 use Rattle.line.specs.declared.known.Bound.{Bound}
 
@@ -48,22 +51,23 @@ pub record FineAt (s : Bytes) (at : ℕ) : Type 0 where
   pub next : ℕ
   pub line : LineAt s at head next
 
+-- what was read of it
+abbrev pub KnownAs : Bytes → ℕ → Seen → Type 0
+KnownAs s at r = (h : Head) (q : ℕ) → LineAt s at h q → (r.next ≡ q) × HeadIs s r h
+
 -- the word that ends at `end` is that of a fine line
-pub record FineBehind (s : Bytes) (end word : ℕ) : Type 0 where
+pub record FineBehind (s : Bytes) (end : ℕ) (word : Word) : Type 0 where
   pub at : ℕ
   pub lead : WordAt s at end word
   pub line : FineAt s at
 
 -- the piece at `at` is a field of this shape with nothing wrong, where the second number of the line is l
-pub record PieceFine (s : Bytes) (at shape l : ℕ) : Type 0 where
+pub record PieceFine (s : Bytes) (at : ℕ) (shape : Shape) (l : ℕ) : Type 0 where
   pub end : ℕ
+  pub n : ℕ
   pub stood : Stood s at end
   pub stop : get_or s end 0 < dash
-  pub fine : why_of (value_at (field_of shape) l (slice at end s)) ≡ 0
-
--- a field of this shape is hexadecimal digits, kept by where they stand
-abbrev pub Spelled : ℕ → Type 0
-Spelled shape = (l : ℕ) (t : Bytes) → why_of (value_at (field_of shape) l t) ≡ 0 → (is_found (unhex t) ≡ true) × (num_of (value_at (field_of shape) l t) ≡ 0)
+  pub fine : Ok n ≡ val_of (value_at (field_of shape) l (slice at end s))
 
 -- ## A binding
 

@@ -1,5 +1,6 @@
-pub mod Arrays
+pub mod Words
 pub mod Rows
+pub mod Kinds
 pub mod Fields
 pub mod Line
 pub mod Quick

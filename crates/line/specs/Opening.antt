@@ -1,19 +1,19 @@
 -- A line that is passed over: its word and where the next line starts, with nothing read of its fields.
-use Rattle.std.specs.Prelude.{◌≡◌, List, [], ◌∷◌, ℕ, ◌+◌, ◌≤◌, ◌<◌, length, get_or, drop}
+use Rattle.std.specs.Prelude.{◌≡◌, List, [], ◌∷◌, ℕ, ◌+◌, ◌≤◌, ◌<◌, length, get_or, drop, Option, None}
 use Rattle.semantics.specs.Codes.{line_feed}
 use Rattle.semantics.specs.Bytes.{Bytes, split}
 use Rattle.text.specs.Text.{Ends}
-use Rattle.line.specs.Rows.{word_no}
-use Rattle.line.specs.Line.{Plain, unknown, known, line_says}
+use Rattle.line.specs.Line.{Plain, unknown, known, line_says, Named}
+use Rattle.line.specs.declared.words.Word.{Word}
 use Rattle.line.specs.declared.opening.Opening.{Opening}
 
--- the number of a line's word, whatever is wrong with its fields
-abbrev pub WordIs : ℕ → Plain → Type 0
-WordIs word unknown = word ≡ 0
-WordIs word (known v r) = word ≡ word_no v
+-- a line's word, whatever is wrong with its fields
+abbrev pub WordIs : Option Word → Plain → Type 0
+WordIs word unknown = word ≡ None
+WordIs word (known v r) = Named word v
 
 -- that of the first of these lines, the last of which is no whole one
-abbrev pub FirstWord : ℕ → List Bytes → Type 0
+abbrev pub FirstWord : Option Word → List Bytes → Type 0
 FirstWord word [] = Unit {0}
 FirstWord word (l ∷ []) = Unit {0}
 FirstWord word (l ∷ l' ∷ ls) = WordIs word (line_says l)

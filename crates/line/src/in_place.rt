@@ -1,117 +1,76 @@
 // Fields read where they stand, in a line whose end is not known yet.
 ghost use Rattle.std.specs.Prelude.{◌≡◌, ℕ, ◌≤◌, ◌<◌, length};
-ghost use Rattle.line.specs.Quick.{DigitsTo, NumberAs, LimitAs, HexTo, PieceTo, GotAs, OptionalAs, Dashed};
+ghost use Rattle.line.specs.declared.shapes.Shape.TheVariants.{Range, Name, Letter, Float};
+ghost use Rattle.line.specs.Quick.{DigitsTo, NumberAs, HexTo, PieceTo, GotAs, Dashed};
 
-use crate::field::{FLOAT_DIGITS, NAME_DIGITS, VARIABLES, read_value};
-use crate::packed::{BEHIND_NINE, DASH, ZERO};
-use crate::shapes::{
-    ALIAS, BOUND, COUNT, FLOAT, LETTER, NAME, OPTIONAL, SIGNED, TO_1, TO_2, TO_3, TO_19, VARIABLE,
-};
+use crate::field::{DASH, FLOAT_DIGITS, NAME_DIGITS, read_value};
+use crate::kinds::VarKind;
+use crate::shapes::Shape;
+use semantics::VARIABLE_LIMIT;
 use text::{COMMA, LINE_END};
 
-// A number of which ten times, and a digit more, fit 64 bits; how many operators and how many counts there are.
+// A number of which ten times, and a digit more, fit 64 bits.
 const SAFE_TENTH: u64 = 1844674407370955160;
 
-const OPERATORS: u64 = 20;
-
-const COUNTS: u64 = 10000;
-
-// A field read where it stands: where it ends, inside the slice, and its number; end 0 where it could not be read at once.
-#[derive(Drop)]
+// A field read where it stands: where it ends, inside the slice, and its number.
+#[derive(Clone, Copy)]
 pub struct Got {
     pub end: usize,
     pub n: u64,
 }
 
-fn not_got() -> Got
-    ensures { result.end ≡ 0 }
-{
-    Got { end: 0, n: 0 }
-}
-
-pub fn wide(b: u8) -> u64
-    ensures { (result ≡ b) × (result < 256) }
-{
-    b as u64
-}
-
-// More digits, from `i` on, behind those from `at` on, which say `first`.
-fn more_digits(sheet: &[u8], at: usize, from: usize, first: u64) -> Got
+// More digits, from `from` on, behind those from `at` on, which say `first`.
+fn more_digits(sheet: &[u8], at: usize, from: usize, first: u64) -> Option<Got>
     requires { DigitsTo sheet.now at from first }
     ensures { NumberAs sheet.now at result }
 {
     let mut n = first;
-    let mut i = from;
-    while i < sheet.len() {
+    for i in from..sheet.len() {
         let b = sheet[i];
         if b < b'0' {
-            return Got { end: i, n };
+            return Some(Got { end: i, n });
         }
-        if b > b'9' {
-            return not_got();
+        if b > b'9' || n > SAFE_TENTH {
+            return None;
         }
-        if n > SAFE_TENTH {
-            return not_got();
-        }
-        n = n * 10 + (wide(b) - ZERO);
-        i += 1;
+        n = n * 10 + u64::from(b - b'0');
     }
-    not_got()
+    None
 }
 
 // The decimal number at `at`.
-fn number_at(sheet: &[u8], at: usize) -> Got
+fn number_at(sheet: &[u8], at: usize) -> Option<Got>
     requires { at ≤ length sheet.now }
     ensures { NumberAs sheet.now at result }
 {
     let end = at + 1;
     if end >= sheet.len() {
-        return not_got();
+        return None;
     }
     let b = sheet[at];
-    if b < b'0' {
-        return not_got();
+    if b < b'0' || b > b'9' {
+        return None;
     }
-    if b > b'9' {
-        return not_got();
-    }
+    let n = u64::from(b - b'0');
     if sheet[end] < b'0' {
-        return Got {
-            end,
-            n: wide(b) - ZERO,
-        };
+        return Some(Got { end, n });
     }
     if b == b'0' {
-        return not_got();
+        return None;
     }
-    more_digits(sheet, at, end, wide(b) - ZERO)
+    more_digits(sheet, at, end, n)
 }
 
-// What the numbers of a shape are below; 0 where that is not all.
-fn limit_of(shape: usize) -> u64
-    ensures { LimitAs shape result }
-{
-    match shape {
-        TO_1 => 2,
-        TO_2 => 3,
-        TO_3 => 4,
-        TO_19 => OPERATORS,
-        COUNT => COUNTS,
-        VARIABLE => VARIABLES,
-        _ => 0,
-    }
-}
-
-// A number below a limit.
-pub fn ranged_at(sheet: &[u8], at: usize, shape: usize) -> Got
+// A number of at least `least` and at most `most`.
+fn ranged_at(sheet: &[u8], at: usize, least: u64, most: u64) -> Option<Got>
     requires { at ≤ length sheet.now }
-    ensures { (l : ℕ) → GotAs sheet.now at shape l result }
+    ensures { (l : ℕ) → GotAs sheet.now at (Range least most) l result }
 {
-    let g = number_at(sheet, at);
-    if g.n < limit_of(shape) {
-        return g;
+    let got = number_at(sheet, at)?;
+    if got.n < least || got.n > most {
+        return None;
     }
-    not_got()
+    Some(got)
 }
 
 // Where the hexadecimal digits from `at` on end.
@@ -119,42 +78,37 @@ fn hex_end(sheet: &[u8], at: usize) -> usize
     requires { at ≤ length sheet.now }
     ensures { HexTo sheet.now at result }
 {
-    let mut i = at;
-    while i < sheet.len() {
-        let b = sheet[i];
-        if b < BEHIND_NINE {
-            if b < b'0' {
-                return i;
-            }
-        } else {
-            if b < b'a' {
-                return i;
-            }
-            if b > b'f' {
-                return i;
-            }
+    for i in at..sheet.len() {
+        match sheet[i] {
+            b'0'..=b'9' | b'a'..=b'f' => {}
+            _ => return i,
         }
-        i += 1;
     }
-    i
+    sheet.len()
 }
 
 // A name.
-pub fn name_at(sheet: &[u8], at: usize) -> Got
+fn name_at(sheet: &[u8], at: usize) -> Option<Got>
     requires { at ≤ length sheet.now }
-    ensures { (l : ℕ) → GotAs sheet.now at 9 l result }
+    ensures { (l : ℕ) → GotAs sheet.now at Name l result }
 {
     let end = hex_end(sheet, at);
-    if end >= sheet.len() {
-        return not_got();
+    if end >= sheet.len() || (end - at) % 2 != 0 || end - at > NAME_DIGITS {
+        return None;
     }
-    if (end - at) % 2 != 0 {
-        return not_got();
+    Some(Got { end, n: 0 })
+}
+
+// The digits of a float.
+fn float_at(sheet: &[u8], at: usize) -> Option<Got>
+    requires { at ≤ length sheet.now }
+    ensures { (l : ℕ) → GotAs sheet.now at Float l result }
+{
+    let end = hex_end(sheet, at);
+    if end >= sheet.len() || end - at != FLOAT_DIGITS {
+        return None;
     }
-    if end - at > NAME_DIGITS {
-        return not_got();
-    }
-    Got { end, n: 0 }
+    Some(Got { end, n: 0 })
 }
 
 // Where the piece at `at` ends: the first comma or LF from there on, or the end of the slice.
@@ -162,113 +116,76 @@ fn piece_end(sheet: &[u8], at: usize) -> usize
     requires { at ≤ length sheet.now }
     ensures { PieceTo sheet.now at result }
 {
-    let mut i = at;
-    while i < sheet.len() {
+    for i in at..sheet.len() {
         let b = sheet[i];
-        if b == COMMA {
+        if b == COMMA || b == LINE_END {
             return i;
         }
-        if b == LINE_END {
-            return i;
-        }
-        i += 1;
     }
-    i
+    sheet.len()
 }
 
 // A field of any shape.
-pub fn other_at(sheet: &[u8], at: usize, shape: usize, l: u64) -> Got
+pub fn other_at(sheet: &[u8], at: usize, shape: Shape, l: u64) -> Option<Got>
     requires { at ≤ length sheet.now }
     ensures { GotAs sheet.now at shape l result }
 {
     let end = piece_end(sheet, at);
     if end >= sheet.len() {
-        return not_got();
+        return None;
     }
-    let v = read_value(&sheet[at..end], shape, l);
-    if v.why != 0 {
-        return not_got();
-    }
-    Got { end, n: v.n }
-}
-
-// The digits of a float.
-fn float_at(sheet: &[u8], at: usize) -> Got
-    requires { at ≤ length sheet.now }
-    ensures { (l : ℕ) → GotAs sheet.now at 14 l result }
-{
-    let end = hex_end(sheet, at);
-    if end >= sheet.len() {
-        return not_got();
-    }
-    if end - at != FLOAT_DIGITS {
-        return not_got();
-    }
-    Got { end, n: 0 }
+    let n = read_value(&sheet[at..end], shape, l).ok()?;
+    Some(Got { end, n })
 }
 
 // The letter of a binding.
-pub fn letter_at(sheet: &[u8], at: usize) -> Got
+pub fn letter_at(sheet: &[u8], at: usize) -> Option<Got>
     requires { at ≤ length sheet.now }
-    ensures { (l : ℕ) → GotAs sheet.now at 12 l result }
+    ensures { (l : ℕ) → GotAs sheet.now at Letter l result }
 {
     let end = at + 1;
     if end >= sheet.len() {
-        return not_got();
+        return None;
     }
-    let b = sheet[at];
-    match b {
-        b'N' => Got { end, n: 0 },
-        b'R' => Got { end, n: 1 },
-        b'P' => Got { end, n: 2 },
-        b'V' => Got { end, n: 3 },
-        _ => not_got(),
+    match VarKind::try_from(sheet[at]) {
+        Ok(kind) => Some(Got {
+            end,
+            n: u64::from(kind),
+        }),
+        Err(_) => None,
     }
-}
-
-// A variable where there may be none.
-fn optional_at(sheet: &[u8], at: usize) -> Got
-    requires { at < length sheet.now }
-    ensures { (l : ℕ) → OptionalAs sheet.now at l result }
-{
-    let g = number_at(sheet, at);
-    if g.n < VARIABLES {
-        return g;
-    }
-    not_got()
 }
 
 // A field that may be `-`.
-fn dash_or(sheet: &[u8], at: usize, shape: usize, l: u64) -> Got
+fn dash_or(sheet: &[u8], at: usize, shape: Shape, l: u64) -> Option<Got>
     requires { (at ≤ length sheet.now) × Dashed shape }
     ensures { GotAs sheet.now at shape l result }
 {
     let end = at + 1;
     if end >= sheet.len() {
-        return not_got();
+        return None;
     }
     if sheet[at] == DASH {
-        return Got { end, n: 0 };
+        return Some(Got { end, n: 0 });
     }
-    if shape == OPTIONAL {
-        return optional_at(sheet, at);
+    match shape {
+        Shape::Optional => ranged_at(sheet, at, 0, VARIABLE_LIMIT),
+        _ => other_at(sheet, at, shape, l),
     }
-    other_at(sheet, at, shape, l)
 }
 
 // The field of a shape at `at`, where the line's second number is `l`.
-pub fn field_at(sheet: &[u8], at: usize, shape: usize, l: u64) -> Got
+pub fn field_at(sheet: &[u8], at: usize, shape: Shape, l: u64) -> Option<Got>
     requires { at ≤ length sheet.now }
     ensures { GotAs sheet.now at shape l result }
 {
     match shape {
-        OPTIONAL => dash_or(sheet, at, shape, l),
-        NAME => name_at(sheet, at),
-        ALIAS => dash_or(sheet, at, shape, l),
-        BOUND => dash_or(sheet, at, shape, l),
-        LETTER => letter_at(sheet, at),
-        SIGNED => other_at(sheet, at, shape, l),
-        FLOAT => float_at(sheet, at),
-        _ => ranged_at(sheet, at, shape),
+        Shape::Range(least, most) => ranged_at(sheet, at, least, most),
+        Shape::Variable => ranged_at(sheet, at, 0, VARIABLE_LIMIT),
+        Shape::Optional | Shape::Alias | Shape::Bound => dash_or(sheet, at, shape, l),
+        Shape::Name => name_at(sheet, at),
+        Shape::Letter => letter_at(sheet, at),
+        Shape::Signed => other_at(sheet, at, shape, l),
+        Shape::Float => float_at(sheet, at),
     }
 }

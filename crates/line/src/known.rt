@@ -1,53 +1,55 @@
-// Lines that are known to be fine, read again: nothing is tested that the first reading has settled.
-ghost use Rattle.std.specs.Prelude.{◌≡◌, [], ◌∷◌, ℕ, ◌+◌, ◌*◌, ◌<◌, length};
+// Fields of a line that is known to be fine, read again: nothing is tested that the first reading has settled.
+ghost use Rattle.std.specs.Prelude.{◌≡◌, [], ◌∷◌, ℕ, length};
 ghost use Rattle.semantics.specs.Sheet.{number, lettered};
-ghost use Rattle.line.specs.Known.{DigitsAt, DigitsAs, HighAt, FineBehind, PieceFine, Spelled, BindingAt, BoundAs};
-ghost use Rattle.line.specs.Quick.{GotAs, QuickBehind, RowIs, NameRow};
+ghost use Rattle.line.specs.declared.shapes.Shape.TheVariants.{Range, Optional, Alias, Signed};
+ghost use Rattle.line.specs.Kinds.{kind_no};
+ghost use Rattle.line.specs.Known.{DigitsAt, DigitsAs, HighAt, PieceFine, BindingAt, BoundAs};
+ghost use Rattle.line.specs.Quick.{GotAs};
 
-use crate::field::{VarId, no_fields, store};
-use crate::in_place::{Got, letter_at, other_at, wide};
-use crate::line::Head;
-use crate::packed::{DASH, NO_SLOTS, SHAPES, ZERO};
-use crate::quick::{closed, unread};
-use crate::shapes::{ALIAS, FLOAT, LETTER, NAME, OPTIONAL, SIGNED};
+use crate::field::{DASH, VarId};
+use crate::in_place::{Got, letter_at, other_at};
+use crate::kinds::VarKind;
+use crate::shapes::Shape;
 use semantics::SIGNED_SHIFT;
-use text::COMMA;
 
-// The number whose digits stand from `at` up to the first byte below them.
+// The number whose digits stand from `at` up to the first byte below them. A `for` to the end of the sheet would test each byte's place.
 fn known_digits(sheet: &[u8], at: usize) -> Got
     requires { DigitsAt sheet.now at }
     ensures { DigitsAs sheet.now at result }
 {
     let mut n: u64 = 0;
-    let mut i = at;
-    loop {
-        let b = sheet[i];
-        if b < b'0' {
-            return Got { end: i, n };
-        }
-        n = n * 10 + (wide(b) - ZERO);
-        i += 1;
+    let mut end = at;
+    while sheet[end] >= b'0' {
+        n = n * 10 + u64::from(sheet[end] - b'0');
+        end += 1;
     }
+    Got { end, n }
 }
 
-// Where the piece at `at` ends, no byte of which is below 45: comma and LF are.
+// Where the piece at `at` ends, no byte of which is below 45: comma and LF are. As above, no place is tested.
 fn known_end(sheet: &[u8], at: usize) -> usize
     requires { HighAt sheet.now at }
     ensures { (d : HighAt sheet.now at) → result ≡ d.end }
 {
-    let mut i = at;
-    loop {
-        if sheet[i] < DASH {
-            return i;
-        }
-        i += 1;
+    let mut end = at;
+    while sheet[end] >= DASH {
+        end += 1;
     }
+    end
+}
+
+// A number of a range.
+fn known_number(sheet: &[u8], at: usize, least: u64, most: u64, l: u64) -> Got
+    requires { PieceFine sheet.now at (Range least most) l }
+    ensures { GotAs sheet.now at (Range least most) l (Some result) }
+{
+    known_digits(sheet, at)
 }
 
 // A variable where there may be none.
 fn known_optional(sheet: &[u8], at: usize, l: u64) -> Got
-    requires { PieceFine sheet.now at 8 l }
-    ensures { GotAs sheet.now at 8 l result }
+    requires { PieceFine sheet.now at Optional l }
+    ensures { GotAs sheet.now at Optional l (Some result) }
 {
     if sheet[at] == DASH {
         return Got { end: at + 1, n: 0 };
@@ -57,8 +59,8 @@ fn known_optional(sheet: &[u8], at: usize, l: u64) -> Got
 
 // A name where there may be none.
 fn known_alias(sheet: &[u8], at: usize, l: u64) -> Got
-    requires { PieceFine sheet.now at 10 l }
-    ensures { GotAs sheet.now at 10 l result }
+    requires { PieceFine sheet.now at Alias l }
+    ensures { GotAs sheet.now at Alias l (Some result) }
 {
     if sheet[at] == DASH {
         return Got { end: at + 1, n: 0 };
@@ -69,118 +71,51 @@ fn known_alias(sheet: &[u8], at: usize, l: u64) -> Got
     }
 }
 
-// A name, or the digits of a float.
-fn known_name(sheet: &[u8], at: usize, shape: usize, l: u64) -> Got
-    requires { PieceFine sheet.now at shape l × Spelled shape }
-    ensures { GotAs sheet.now at shape l result }
-{
-    Got {
-        end: known_end(sheet, at),
-        n: 0,
-    }
-}
-
 // A signed number, shifted so that the least is 0.
 fn known_signed(sheet: &[u8], at: usize, l: u64) -> Got
-    requires { PieceFine sheet.now at 13 l }
-    ensures { GotAs sheet.now at 13 l result }
+    requires { PieceFine sheet.now at Signed l }
+    ensures { GotAs sheet.now at Signed l (Some result) }
 {
     if sheet[at] == DASH {
-        let g = known_digits(sheet, at + 1);
+        let got = known_digits(sheet, at + 1);
         return Got {
-            end: g.end,
-            n: SIGNED_SHIFT - g.n,
+            end: got.end,
+            n: SIGNED_SHIFT - got.n,
         };
     }
-    let g = known_digits(sheet, at);
+    let got = known_digits(sheet, at);
     Got {
-        end: g.end,
-        n: SIGNED_SHIFT + g.n,
+        end: got.end,
+        n: SIGNED_SHIFT + got.n,
     }
 }
 
 // The field of a shape at `at`, where the line's second number is `l`.
-fn known_field(sheet: &[u8], at: usize, shape: usize, l: u64) -> Got
+pub fn known_field(sheet: &[u8], at: usize, shape: Shape, l: u64) -> Option<Got>
     requires { PieceFine sheet.now at shape l }
     ensures { GotAs sheet.now at shape l result }
 {
-    if shape < OPTIONAL {
-        return known_digits(sheet, at);
-    }
     match shape {
-        OPTIONAL => known_optional(sheet, at, l),
-        NAME => known_name(sheet, at, shape, l),
-        ALIAS => known_alias(sheet, at, l),
-        LETTER => letter_at(sheet, at),
-        SIGNED => known_signed(sheet, at, l),
-        FLOAT => known_name(sheet, at, shape, l),
-        _ => other_at(sheet, at, shape, l),
+        Shape::Range(least, most) => Some(known_number(sheet, at, least, most, l)),
+        Shape::Variable => Some(known_digits(sheet, at)),
+        Shape::Optional => Some(known_optional(sheet, at, l)),
+        Shape::Name => Some(Got {
+            end: known_end(sheet, at),
+            n: 0,
+        }),
+        Shape::Float => Some(Got {
+            end: known_end(sheet, at),
+            n: 0,
+        }),
+        Shape::Alias => Some(known_alias(sheet, at, l)),
+        Shape::Letter => letter_at(sheet, at),
+        Shape::Signed => Some(known_signed(sheet, at, l)),
+        Shape::Bound => other_at(sheet, at, shape, l),
     }
-}
-
-// The fields behind the word that ends at `end`.
-pub fn known_fields(sheet: &[u8], end: usize, word: usize, row: u64, slots: usize) -> Head
-    requires { (end < length sheet.now) × RowIs word row slots × FineBehind sheet.now end word }
-    ensures { QuickBehind sheet.now end word result }
-{
-    let n = (row % SHAPES) as usize;
-    let mut f = no_fields();
-    let mut p = end;
-    let mut rest = row / SHAPES;
-    let mut j = 0;
-    while j < n {
-        if sheet[p] != COMMA {
-            return unread();
-        }
-        let shape = (rest % SHAPES) as usize;
-        let g = known_field(sheet, p + 1, shape, f.second);
-        if g.end == 0 {
-            return unread();
-        }
-        f = store(f, shape, slots, p + 1, g.end, g.n);
-        p = g.end;
-        rest = rest / SHAPES;
-        j += 1;
-    }
-    closed(sheet, p, word, f)
-}
-
-// One field, a number.
-pub fn known_number(sheet: &[u8], end: usize, word: usize, shape: usize, slots: usize) -> Head
-    requires { (end < length sheet.now) × (shape < 8) × RowIs word (1 + 32 * shape) slots × FineBehind sheet.now end word }
-    ensures { QuickBehind sheet.now end word result }
-{
-    if sheet[end] != COMMA {
-        return unread();
-    }
-    let g = known_digits(sheet, end + 1);
-    closed(
-        sheet,
-        g.end,
-        word,
-        store(no_fields(), shape, slots, end + 1, g.end, g.n),
-    )
-}
-
-// One field, a name.
-pub fn known_named(sheet: &[u8], end: usize, word: usize) -> Head
-    requires { (end < length sheet.now) × NameRow word × FineBehind sheet.now end word }
-    ensures { QuickBehind sheet.now end word result }
-{
-    if sheet[end] != COMMA {
-        return unread();
-    }
-    let stop = known_end(sheet, end + 1);
-    closed(
-        sheet,
-        stop,
-        word,
-        store(no_fields(), NAME, NO_SLOTS, end + 1, stop, 0),
-    )
 }
 
 // The variable of a binding, and where its digits end.
-#[derive(Drop)]
+#[derive(Clone, Copy)]
 pub struct Bound {
     pub var: VarId,
     pub end: usize,
@@ -191,21 +126,16 @@ pub fn bound_at(sheet: &[u8], at: usize) -> Bound
     requires { BindingAt sheet.now at }
     ensures { (b : BindingAt sheet.now at) → BoundAs sheet.now b.head b.next result }
 {
-    let g = known_digits(sheet, at + 2);
+    let got = known_digits(sheet, at + 2);
     Bound {
-        var: VarId(g.n as u32),
-        end: g.end,
+        var: VarId(got.n as u32),
+        end: got.end,
     }
 }
 
 // The kind that a binding's letter says.
-pub fn kind_of(letter: u8) -> u64
-    ensures { (n : ℕ) → lettered (letter ∷ []) ≡ number n → result ≡ n }
+pub fn kind_of(letter: u8) -> VarKind
+    ensures { (n : ℕ) → lettered (letter ∷ []) ≡ number n → kind_no result ≡ n }
 {
-    match letter {
-        b'N' => 0,
-        b'R' => 1,
-        b'P' => 2,
-        _ => 3,
-    }
+    VarKind::try_from(letter).unwrap_or(VarKind::Value)
 }

@@ -1,100 +1,75 @@
 // One line of a sheet under a cursor.
-ghost use Rattle.std.specs.Prelude.{◌≡◌, true, ℕ, suc, ◌+◌, ◌*◌, ◌≤◌, ◌<◌, ◌/◌, ◌%◌, length, drop};
+ghost use Rattle.std.specs.Prelude.{◌≡◌, ◌==◌, ◌+◌, ◌≤◌, ◌<◌, length, drop, map, count_by};
 ghost use Rattle.semantics.specs.Codes.{line_feed, comma};
 ghost use Rattle.semantics.specs.Bytes.{split};
-ghost use Rattle.semantics.specs.Sheet.{Word, fill, bare};
-ghost use Rattle.line.specs.Rows.{code_from};
-ghost use Rattle.line.specs.Fields.{fields_of};
-ghost use Rattle.line.specs.Line.{pieces, FilledAs, seen_as, line_says, SaysAs, ReadAs};
-ghost use Rattle.line.specs.Known.{FineAt};
+ghost use Rattle.semantics.specs.Sheet.{Word as Spoken, words, fill, bare};
+ghost use Rattle.line.specs.Words.{field_of, under_of};
+ghost use Rattle.line.specs.Rows.{CodeAs, FoundAs, code_from, word_at};
+ghost use Rattle.line.specs.Fields.{most_fields};
+ghost use Rattle.line.specs.Line.{pieces, FilledAs, seen_as, line_says, SaysAs, ReadAs, next_of};
+ghost use Rattle.line.specs.Known.{FineAt, KnownAs};
 
-use crate::field::{Fields, VarId, no_fields, read_value, store};
-use crate::in_place::wide;
-use crate::packed::{BYTE, FULL, SHAPES};
-use crate::quick::quick;
-use crate::table::{shapes_of, slots_of, word_of};
-use semantics::ACCEPTED;
+use crate::field::{Fields, VarId, read_value};
+use crate::quick::{BYTE, FULL, quick};
+use crate::rows::{Under, row_of};
+use crate::shapes::Shape;
+use crate::words::{Word, word_of};
+use semantics::Refusal;
 use text::COMMA;
 
-// A line's fields: what is wrong with them (0, 3 or 4), and what they say.
-#[derive(Drop)]
-pub struct Filled {
-    pub why: u32,
-    pub fields: Fields,
-}
-
-// A word's letters behind a 1, a byte each; 0 for more than five.
-fn word_code(word: &[u8]) -> u64
-    ensures { result ≡ code_from 1 word.now }
+// A word's letters behind a 1, a byte each; none for more than five.
+fn word_code(letters: &[u8]) -> Option<u64>
+    ensures { CodeAs result (code_from 1 letters.now) }
 {
     let mut code: u64 = 1;
-    let mut i = 0;
-    while i < word.len() {
+    for b in letters {
         if code >= FULL {
-            return 0;
+            return None;
         }
-        code = code * BYTE + wide(word[i]);
-        i += 1;
+        code = code * BYTE + u64::from(*b);
     }
-    code
+    Some(code)
 }
 
-// How many commas stand from `from` on.
-fn commas(line: &[u8], from: usize) -> usize
-    requires { from ≤ length line.now }
-    ensures { suc result ≡ length (split comma (drop from line.now)) }
+// The word that is spelled so.
+fn word_spelled(letters: &[u8]) -> Option<Word>
+    ensures { FoundAs result (word_at (code_from 1 letters.now) words) }
 {
-    let mut n = 0;
-    let mut i = from;
-    while i < line.len() {
-        if line[i] == COMMA {
-            n += 1;
-        }
-        i += 1;
-    }
-    n
+    word_of(word_code(letters)?)
 }
 
-// The `n` fields from `from` on, left to right, up to the first that is wrong.
-fn read_fields(line: &[u8], from: usize, n: usize, shapes: u64, slots: usize) -> Filled
-    requires { (length (pieces line.now from) ≡ n) × (n < 32) }
-    ensures { (v : Word) → FilledAs line.now slots (fill (bare v) (fields_of n shapes) (pieces line.now from)) result }
+// How many commas stand in a line.
+fn commas(line: &[u8]) -> usize
+    ensures { result ≡ count_by (λ b. b == comma) line.now }
 {
-    let mut f = no_fields();
-    let mut p = from;
-    let mut rest = shapes;
-    let mut j = 0;
-    while j < n {
-        let q = text::field_end(line, p);
-        let shape = (rest % SHAPES) as usize;
-        let v = read_value(&line[p..q], shape, f.second);
-        if v.why != ACCEPTED {
-            return Filled {
-                why: v.why,
-                fields: f,
-            };
-        }
-        f = store(f, shape, slots, p, q, v.n);
-        p = q + 1;
-        rest = rest / SHAPES;
-        j += 1;
+    line.iter().filter(|b| **b == COMMA).count()
+}
+
+// The fields from `from` on, left to right, up to the first that is wrong.
+fn read_fields(line: &[u8], from: usize, shapes: &[Shape]) -> Result<Fields, Refusal>
+    requires { (length (pieces line.now from) ≡ length shapes.now) × (length shapes.now ≤ most_fields) }
+    ensures { (v : Spoken) → FilledAs line.now (fill (bare v) (map field_of shapes.now) (pieces line.now from)) result }
+{
+    let mut fields = Fields::none();
+    let mut at = from;
+    for shape in shapes {
+        let end = text::field_end(line, at);
+        let second = fields.number(Some(1));
+        let n = read_value(&line[at..end], *shape, second)?;
+        fields.store(*shape, at, end, n);
+        at = end + 1;
     }
-    Filled {
-        why: ACCEPTED,
-        fields: f,
-    }
+    Ok(fields)
 }
 
 // A line's number, from 1.
-#[derive(Clone, Copy)]
+#[derive(Clone, Copy, PartialEq, Eq)]
 pub struct HirId(pub u32);
 
-// A line: its word (0 for no whole line and for an unknown word), what is wrong with its fields (0, 3 or 4), where the next line
-// starts, and what the fields say. A name stands from `name` to `stop` in hexadecimal digits.
+// A line: its word, where the next line starts, and what the fields say. A name stands from `name` to `stop` in hexadecimal digits.
 #[derive(Clone, Copy)]
 pub struct Head {
-    pub word: usize,
-    pub why: u32,
+    pub word: Word,
     pub next: usize,
     pub var: VarId,
     pub num: u64,
@@ -104,63 +79,95 @@ pub struct Head {
     pub stop: usize,
 }
 
-pub fn head_of(word: usize, why: u32, next: usize, f: Fields) -> Head
-    ensures { result ≡ seen_as word why next f }
+// A line that is no good: its word, if it is whole and has one; what is wrong with it; where the next line starts.
+#[derive(Clone, Copy)]
+pub struct BadLine {
+    pub word: Option<Word>,
+    pub why: Refusal,
+    pub next: usize,
+}
+
+pub fn head_of(word: Word, under: Under, next: usize, fields: &Fields) -> Head
+    ensures { result ≡ seen_as word (under_of under) next fields.now }
 {
-    let var = f.var;
     Head {
         word,
-        why,
         next,
-        var,
-        num: f.num,
-        flag: f.flag,
-        count: f.count,
-        name: f.name,
-        stop: f.stop,
+        var: fields.var,
+        num: fields.number(Some(0)),
+        flag: fields.number(under.flag_at()),
+        count: fields.number(under.count_at()),
+        name: fields.name,
+        stop: fields.stop,
     }
 }
 
-// The line that stands from `at` to the end of `line`.
-fn read_words(line: &[u8], at: usize, next: usize) -> Head
+// The line that stands from `at` to the end of `line`; the next one starts at `next`.
+fn read_words(line: &[u8], at: usize, next: usize) -> Result<Head, BadLine>
     requires { at ≤ length line.now }
-    ensures { (result.next ≡ next) × SaysAs line.now result (line_says (drop at line.now)) }
+    ensures { (next_of result ≡ next) × SaysAs line.now result (line_says (drop at line.now)) }
 {
-    let q = text::field_end(line, at);
-    let word = word_of(word_code(&line[at..q]));
-    if word == 0 {
-        return head_of(0, 3, next, no_fields());
+    let end = text::field_end(line, at);
+    let Some(word) = word_spelled(&line[at..end]) else {
+        return Err(BadLine {
+            word: None,
+            why: Refusal::BadlyWritten,
+            next,
+        });
+    };
+    let row = row_of(word);
+    if commas(&line[at..]) != row.fields.len() {
+        return Err(BadLine {
+            word: Some(word),
+            why: Refusal::BadlyWritten,
+            next,
+        });
     }
-    let shapes = shapes_of(word);
-    let n = (shapes % SHAPES) as usize;
-    if commas(line, at) != n {
-        return head_of(word, 3, next, no_fields());
+    match read_fields(line, end + 1, row.fields) {
+        Ok(fields) => Ok(head_of(word, row.under, next, &fields)),
+        Err(why) => Err(BadLine {
+            word: Some(word),
+            why,
+            next,
+        }),
     }
-    let f = read_fields(line, q + 1, n, shapes / SHAPES, slots_of(word));
-    let fields = f.fields;
-    head_of(word, f.why, next, fields)
 }
 
 // The line at `at`, whatever is wrong with it.
-fn read_any(sheet: &[u8], at: usize) -> Head
+fn read_any(sheet: &[u8], at: usize) -> Result<Head, BadLine>
     requires { at ≤ length sheet.now }
     ensures { ReadAs sheet.now at result (split line_feed (drop at sheet.now)) }
 {
     let end = text::line_end(sheet, at);
     if end >= sheet.len() {
-        return head_of(0, 3, at, no_fields());
+        return Err(BadLine {
+            word: None,
+            why: Refusal::BadlyWritten,
+            next: at,
+        });
     }
-    read_words(&sheet[0..end], at, end + 1)
+    read_words(&sheet[..end], at, end + 1)
 }
 
-// The line at `at`, known to be fine or not.
-pub fn read_line(sheet: &[u8], at: usize, fine: bool) -> Head
-    requires { (at ≤ length sheet.now) × (fine ≡ true → FineAt sheet.now at) }
+// The line at `at`.
+pub fn read_line(sheet: &[u8], at: usize) -> Result<Head, BadLine>
+    requires { at ≤ length sheet.now }
     ensures { ReadAs sheet.now at result (split line_feed (drop at sheet.now)) }
 {
-    let h = quick(sheet, at, fine);
-    if h.word != 0 {
-        return h;
+    match quick::<false>(sheet, at) {
+        Some(head) => Ok(head),
+        None => read_any(sheet, at),
     }
-    read_any(sheet, at)
+}
+
+// The line at `at`, which is known to be fine.
+pub fn known_line(sheet: &[u8], at: usize) -> Head
+    requires { (at ≤ length sheet.now) × FineAt sheet.now at }
+    ensures read { ReadAs sheet.now at (Ok result) (split line_feed (drop at sheet.now)) }
+    ensures known { KnownAs sheet.now at result }
+{
+    match quick::<true>(sheet, at) {
+        Some(head) => head,
+        None => read_any(sheet, at).unwrap(),
+    }
 }

@@ -8,6 +8,7 @@ use native.Mathlib.Omega.{arith}
 use lib.Dec.{ltb}
 use lib.ListN.{length, take, drop, length-take}
 use borrow.Author.Tests.{le-ltb}
+use Rattle.std.specs.Prelude.{Option, Some, None}
 use Rattle.semantics.specs.Limits.{type_limit, nesting_limit}
 use Rattle.semantics.specs.Bytes.{Bytes}
 use Rattle.semantics.specs.Ty.{Ty, t_map, Fields, ∅ᶠ, field, line_to, line, nesting, nesting_f, too_large, set_field}
@@ -16,10 +17,6 @@ use Rattle.ty.specs.Parts.{TypeAt, TypeFrom}
 use Rattle.ty.specs.Made.{Made, made}
 use Rattle.ty.specs.Entry.{MapFront, Goes, Fronted, Entered, inserted_at}
 use Rattle.ty.specs.Read.{NestingEnd}
-use Rattle.ty.specs.declared.Grown.{Grown}
-use Rattle.ty.specs.declared.Grown.TheVariants.{TooLarge}
-use Rattle.ty.specs.declared.end.TypeEnd.{TypeEnd}
-use Rattle.ty.specs.declared.end.TypeEnd.TheVariants.{End, Bad}
 use Rattle.ty.specs.declared.map.Spot.TheVariants.{New}
 use Rattle.ty.proofs.Lines.{line-to}
 use Rattle.ty.proofs.Sizes.{deep-large, large-no, within_end, within-bad}
@@ -55,7 +52,7 @@ large-long u h = rw (le-ltb nesting_limit (nesting u) h) (or-none (ltb type_limi
     or-none true = refl
     or-none false = refl
 
-fronted-short : (s s' l : Bytes) (u : Ty) (r : Grown) → l ≡ line u → nesting u ≤ nesting_limit → Fronted s s' l r → Made s s' 0 u r
+fronted-short : (s s' l : Bytes) (u : Ty) (r : Option ℕ) → l ≡ line u → nesting u ≤ nesting_limit → Fronted s s' l r → Made s s' 0 u r
 fronted-short s s' l u r is d h =
     record {
       answer = h.answer ∙ ap₂ made (ap (λ (x : Bytes). ltb type_limit (length x)) is ∙ sym (large-long u d)) (ap length is);
@@ -69,7 +66,7 @@ fronted-short s s' l u r is d h =
       long = h.long;
     }
 
-pub placed : (s s' x : Bytes) (n end p : ℕ) (r : Grown) (b : EnteringValue s n end x) (fs : Fields) (m : Bytes) (t : Ty) (f : MapFront s n x fs m) (v : TypeAt s n end t)
+pub placed : (s s' x : Bytes) (n end p : ℕ) (r : Option ℕ) (b : EnteringValue s n end x) (fs : Fields) (m : Bytes) (t : Ty) (f : MapFront s n x fs m) (v : TypeAt s n end t)
     → Goes (line (t_map fs)) fs m (New p) → Fronted s s' (inserted_at s n end p x) r → Made s s' 0 (t_map (set_field m t fs)) r
 placed s s' x n end p r b fs m t f v g h =
     fronted-short s s' (inserted_at s n end p x) (t_map (set_field m t fs)) r (new_line s x n fs m f end p t v g) (set-within m t fs (b.before.map fs f.at) (b.value t v)) h
@@ -82,10 +79,10 @@ value-from {s} {n} {end} {t} v = drop-part s n end (line t) v.ordered v.is ∙ s
 pub value-type : {s x : Bytes} {n end : ℕ} → EnteringMap s n end x → TypeFrom s n
 value-type {s} {end = end} b = let v = b.entering.value in record { ty = v.ty; rest = drop end s; is = value-from v.at }
 
-pub shallow : (s x : Bytes) (n end e : ℕ) (r : TypeEnd) → EnteringMap s n end x → NestingEnd s n 31 r → r ≡ End e → EnteringValue s n end x
+pub shallow : (s x : Bytes) (n end e : ℕ) (r : Option ℕ) → EnteringMap s n end x → NestingEnd s n 31 r → r ≡ Some e → EnteringValue s n end x
 shallow s x n end e r b h z = record { before = b; value = λ t v. let w = within_end 31 n e t (sym z ∙ h t (drop end s) (value-from v)) in omega (arith, w) }
 
-pub deep : (s x : Bytes) (n end : ℕ) (r : TypeEnd) → NestingEnd s n 31 r → r ≡ Bad → Entered s s n end x TooLarge
+pub deep : (s x : Bytes) (n end : ℕ) (r : Option ℕ) → NestingEnd s n 31 r → r ≡ None → Entered s s n end x None
 deep s x n end r h z fs m t f v =
     let large : too_large (t_map (set_field m t fs)) ≡ true = let w = within-bad 31 n t (sym z ∙ h t (drop end s) (value-from v)) in set-over m t fs (omega (arith, w)) in
     record { answer = sym (ap (λ (b : Bool). made b (length (line (t_map (set_field m t fs))))) large); stands = λ y. absurd (false≢true (sym y ∙ large)); below = refl; long = refl }

@@ -7,8 +7,9 @@ use mathlib.Core.Bool.{Bool, true, false, ◌||◌}
 use Prim.Native.Nat.{ℕ, zero, suc, ◌+◌, ◌-◌, ◌≤◌, ◌<◌, Ordering}
 use native.Mathlib.Omega.{arith}
 use lib.Dec.{ltb}
-use lib.ListN.{length, take, drop, get_or, set, length-append, length-set, length-take, take-append-drop}
-use lib.Seq.{slice, sets, length-sets, length-slice, length-take-le, take_at, drop_at, get_or-drop, take-take}
+use lib.ListN.{length, take, drop, get_or, length-append, length-take, take-append-drop}
+use lib.Seq.{slice, length-slice, length-take-le, take_at, drop_at, get_or-drop, take-take}
+use Rattle.std.specs.Prelude.{Option, Some, None}
 use Rattle.semantics.specs.Bytes.{Bytes, hex, lex}
 use Rattle.semantics.specs.Ty.{t_node, name_to, names_to, labels_to, line_to, line, nesting, too_large, insert_name}
 use Rattle.semantics.proofs.All.{All, empty, also, all-weaken, all_append}
@@ -16,20 +17,16 @@ use Rattle.semantics.proofs.Order.{Less, Tri, lt, eq, gt, tri, lex-lt, lex-gt, l
 use Rattle.semantics.proofs.Regular.{Above, Ascends, ascends-sound}
 use Rattle.unify_run.proofs.Maps.{ascends-all}
 use borrow.Author.Tests.{ltb-false, le-ltb}
-use Rattle.text.specs.Text.{Ends, order_of, rotated}
-use Rattle.text.specs.declared.Order.{Order}
-use Rattle.text.specs.declared.Order.TheVariants.{Less as Before, Same, More}
-use Rattle.text.proofs.Laws.{part_slice, drop-join}
+use Rattle.text.specs.Text.{Ends, order_of}
+use Rattle.std.specs.declared.cmp.Ordering.{Ordering as Order}
+use Rattle.std.specs.declared.cmp.Ordering.TheVariants.{Less as Before, Equal, Greater}
+use Rattle.text.proofs.Laws.{part_slice}
 use Rattle.ty.specs.Parts.{TypeAt}
 use Rattle.ty.specs.Merging.{head_to, HeadAt}
 use Rattle.ty.specs.Entry.{Fronted, inserted_at}
 use Rattle.ty.specs.Made.{made as grown_by}
-use Rattle.ty.specs.declared.Grown.{Grown}
-use Rattle.ty.specs.declared.Grown.TheVariants.{Len, TooLarge}
-use Rattle.ty.proofs.EntryLaws.{fronted-over, fronted-within, inserted-long, inserted-front}
 use Rattle.ty.proofs.Lines.{line-to, name-to, hex-bytes}
 use Rattle.ty.proofs.NameLaws.{name-long, name-append, name-ends, name_part, lex-hex}
-use Rattle.old.specs.declared.labels.LabelSpot.TheVariants.{New, There}
 use Rattle.old.specs.Make.{StartIn, LabelsFront, SomeLabel, LabelGoes, LabelSpotted, LabelAdded}
 
 -- ## Labels one after the other
@@ -242,10 +239,6 @@ module _ (w : Bytes) (n : ℕ) (x : Bytes) (ls : List Bytes) (m : Bytes) (f : La
             of (suc i) e (find-label s.post (drop n w) (suc i) (inside (suc i) e) here)
 
     module _ (c : ℕ) (en : Ends 44 w a c) where
-      pub label-past : (a ≤ c) × (c + 2 ≤ n)
-      label-past =
-          (en.from, omega (arith, name-ends w a c met.name met.here en, met.at, node-long, ap (λ (l : List Bytes). length (spelled l)) met.split, spelled-append met.before (met.name ∷ met.others), spelled-long met.name met.others))
-
       module _ (o : Order) (told : order_of o ≡ lex (take (c - a) (drop a w)) x) where
         compared : order_of o ≡ lex met.name m
         compared = told ∙ ap₂ lex (part_slice a c w ∙ name_part w a c met.name met.here en) z ∙ lex-hex met.name m
@@ -270,7 +263,7 @@ module _ (w : Bytes) (n : ℕ) (x : Bytes) (ls : List Bytes) (m : Bytes) (f : La
             go (eq h) = absurd (lt-eq (sym (ap order_of e) ∙ compared ∙ ap (λ (b : Bytes). lex b m) h ∙ lex-eq m))
             go (gt h) = absurd (lt-gt (sym (ap order_of e) ∙ compared ∙ lex-gt h))
 
-        pub seek-there : o ≡ Same → LabelGoes (line (t_node (some ls))) ls m There
+        pub seek-there : o ≡ Equal → LabelGoes (line (t_node (some ls))) ls m None
         seek-there e = go (tri met.name m)
           where
             go : Tri met.name m → insert_name m ls ≡ ls
@@ -282,7 +275,7 @@ module _ (w : Bytes) (n : ℕ) (x : Bytes) (ls : List Bytes) (m : Bytes) (f : La
                 ap (insert_name m) v ∙ insert-behind m met.before (m ∷ met.others) b ∙ ap (λ (l : List Bytes). met.before ++ l) (insert-there m met.others) ∙ sym v
             go (gt h) = absurd (eq-gt (sym (ap order_of e) ∙ compared ∙ lex-gt h))
 
-        pub seek-down : o ≡ More → Seeking ls m lo a
+        pub seek-down : o ≡ Greater → Seeking ls m lo a
         seek-down e = go (tri met.name m)
           where
             on : Less m met.name → Seeking ls m lo a
@@ -306,7 +299,7 @@ module _ (w : Bytes) (n : ℕ) (x : Bytes) (ls : List Bytes) (m : Bytes) (f : La
             go (gt h) = on h
 
   -- nothing is left between
-  pub seek-done : (lo hi : ℕ) → Seeking ls m lo hi → hi ≤ lo → LabelGoes (line (t_node (some ls))) ls m (New lo)
+  pub seek-done : (lo hi : ℕ) → Seeking ls m lo hi → hi ≤ lo → LabelGoes (line (t_node (some ls))) ls m (Some lo)
   unfolding line line_to labels_to names_to
   seek-done lo hi s h =
       let N = names_to s.post [] in
@@ -331,26 +324,6 @@ empty-slice m l h = go (slice m m l) (length-slice m m l h)
     go [] e = refl
     go (b ∷ y) e = absurd (omega (arith, e))
 
-rotated-none : (a m : ℕ) (l : Bytes) → a ≤ m → m ≤ length l → rotated a m m l ≡ l
-rotated-none a m l h k =
-    ap (λ (y : Bytes). take a l ++ (y ++ (slice a m l ++ drop m l))) (empty-slice m l k) ∙ ap (λ (y : Bytes). take a l ++ y) (drop-join a m l h) ∙ take-append-drop a l
-
-module _ (s x : Bytes) (n p : ℕ) (hp : p ≤ n) (hn : n ≤ length s) where
-  pub label-over : 1024 < n + (length x + 1) → Fronted s s (inserted_at s n n p x) TooLarge
-  label-over h = fronted-over s s (inserted_at s n n p x) (n + (length x + 1)) (inserted-long s x n n p hp (omega arith) hn) h refl
-
-  module _ (s₁ s₂ : Bytes) (c : ℕ) (room : n + (length x + 1) ≤ length s) (e₁ : s₁ ≡ sets s (p + (length x + 1)) (slice p (p + (n - p)) s)) (e₂ : s₂ ≡ sets s₁ p x)
-      (ec : c ≡ p + length x) where
-    pub label_kept : length (set s₂ c 44) ≡ length s
-    label_kept = length-set s₂ c 44 ∙ ap length e₂ ∙ length-sets s₁ p x ∙ ap length e₁ ∙ length-sets s (p + (length x + 1)) (slice p (p + (n - p)) s)
-
-    pub label-fronted : n + (length x + 1) ≤ 1024 → Fronted s (set s₂ c 44) (inserted_at s n n p x) (Len (n + (length x + 1)))
-    label-fronted h =
-        let gap = length x + 1 in
-        let l = label_kept in
-        fronted-within s (set s₂ c 44) (inserted_at s n n p x) (n + gap) (inserted-long s x n n p hp (omega arith) hn) h l
-        (inserted-front s x n n p hp (omega arith) hn s₁ s₂ (set s₂ c 44) c room e₁ e₂ ec (sym (rotated-none (p + gap) (n + gap) (set s₂ c 44) (omega arith) (omega (arith, l)))))
-
 -- ## One label more
 
 node-large : (ls : List Bytes) → too_large (t_node (some ls)) ≡ ltb 1024 (length (line (t_node (some ls))))
@@ -362,10 +335,10 @@ node-large ls = go (ltb 1024 (length (line (t_node (some ls)))))
     go false = refl
 
 module _ (w : Bytes) (n : ℕ) (x : Bytes) (q : SomeLabel w n x) where
-  pub spot-inside : (p : ℕ) → LabelSpotted w n x (New p) → p ≤ n
+  pub spot-inside : (p : ℕ) → LabelSpotted w n x (Some p) → p ≤ n
   spot-inside p g = let f = q.front in omega (arith, (g q.labels q.name f q.spelt).0, ap length f.at.is, length-take-le n w f.at.inside)
 
-  module _ (p : ℕ) (spot : LabelSpotted w n x (New p)) (w' : Bytes) (r : Grown) (h : Fronted w w' (inserted_at w n n p x) r) (ls : List Bytes) (m : Bytes) (f : LabelsFront w n ls) (z : x ≡ map hex m) where
+  module _ (p : ℕ) (spot : LabelSpotted w n x (Some p)) (w' : Bytes) (r : Option ℕ) (h : Fronted w w' (inserted_at w n n p x) r) (ls : List Bytes) (m : Bytes) (f : LabelsFront w n ls) (z : x ≡ map hex m) where
     new_line : inserted_at w n n p x ≡ line (t_node (some (insert_name m ls)))
     unfolding inserted_at
     new_line =
@@ -389,11 +362,11 @@ module _ (w : Bytes) (n : ℕ) (x : Bytes) (q : SomeLabel w n x) where
         let j : 0 + length (line u) ≡ length l = omega (arith, k) in
         record { ordered = omega arith; inside = omega (arith, ap length v, length-take (length l) w', k); is = ap (λ (i : ℕ). take i w') j ∙ v ∙ new_line }
 
-  pub label-new : (p : ℕ) → LabelSpotted w n x (New p) → (w' : Bytes) (r : Grown) → Fronted w w' (inserted_at w n n p x) r → LabelAdded w w' n x r
+  pub label-new : (p : ℕ) → LabelSpotted w n x (Some p) → (w' : Bytes) (r : Option ℕ) → Fronted w w' (inserted_at w n n p x) r → LabelAdded w w' n x r
   label-new p spot w' r h ls m f z =
       record { answer = new_told p spot w' r h ls m f z; stands = new-stands p spot w' r h ls m f z; below = refl; long = h.long }
 
-  pub label-there : LabelSpotted w n x There → LabelAdded w w n x (Len n)
+  pub label-there : LabelSpotted w n x None → LabelAdded w w n x (Some n)
   label-there spot ls m f z =
       let e : insert_name m ls ≡ ls = spot ls m f z in
       let k : length (line (t_node (some ls))) ≡ n = sym (ap length f.at.is) ∙ length-take-le n w f.at.inside in

@@ -8,6 +8,7 @@ use native.Mathlib.Nat.{zero-add}
 use native.Mathlib.Omega.{arith}
 use lib.ListN.{length, drop, length-drop, length-map}
 use lib.Seq.{slice, sets, length-sets, length-slice}
+use Rattle.std.specs.Prelude.{Option, Some, None}
 use Rattle.text.specs.Text.{index_of}
 use Rattle.semantics.specs.Bytes.{Bytes, hex, lex}
 use Rattle.semantics.specs.Ty.{Ty, t_node, name_to, names_to, labels_to, line_to, line, nesting, too_large, insert_name, insert_names, ascending}
@@ -20,14 +21,11 @@ use Rattle.ty.specs.Parts.{TypeAt}
 use Rattle.ty.specs.Read.{field_at}
 use Rattle.ty.specs.Made.{Made as Stands}
 use Rattle.ty.specs.Merging.{head_to, HeadAt}
-use Rattle.ty.specs.declared.Grown.{Grown}
-use Rattle.ty.specs.declared.Grown.TheVariants.{Len, TooLarge}
 use Rattle.ty.proofs.NameLaws.{name-long, head-name}
 use Rattle.ty.proofs.Places.{byte_at}
 use Rattle.ty.proofs.Skips.{name-past}
 use Rattle.ty.proofs.Fields.{field-yes, field_is, name_part}
-use Rattle.old.specs.declared.Answer.{Answer}
-use Rattle.old.specs.declared.Answer.TheVariants.{Done, Large}
+use Rattle.old.specs.declared.RegularType.{RegularType}
 use Rattle.old.specs.Make.{MadeAs, LabelsFront, SomeLabel, LabelAdded}
 use Rattle.old.proofs.Answers.{grown-len, grown-large, type-long}
 
@@ -56,7 +54,7 @@ head_at : (s : Bytes) (q : ℕ) (m r : Bytes) → drop q s ≡ name_to m r → H
 unfolding head_to
 head_at s q m r h = record { rest = r; is = h }
 
-pub made-long : {w w₀ w' : Bytes} {end : ℕ} {u : Ty} {r : Answer} → length w ≡ length w₀ → MadeAs w w' end u r → MadeAs w₀ w' end u r
+pub made-long : {w w₀ w' : Bytes} {end : ℕ} {u : Ty} {r : Option RegularType} → length w ≡ length w₀ → MadeAs w w' end u r → MadeAs w₀ w' end u r
 made-long l m = record { answer = m.answer; stands = m.stands; long = m.long ∙ l }
 
 -- ## The loop
@@ -144,7 +142,7 @@ module _ (s w : Bytes) (at q n : ℕ) (ls : List Bytes) (rest : Bytes) (i : Labe
     pub label_inside : e < length s
     label_inside = next.inside
 
-    module _ (x : Bytes) (y : x ≡ slice q e s) (w' : Bytes) (r : Grown) (a : LabelAdded w w' n x r) where
+    module _ (x : Bytes) (y : x ≡ slice q e s) (w' : Bytes) (r : Option ℕ) (a : LabelAdded w w' n x r) where
       added : Stands w w' 0 (t_node (some (insert_name next.name i.acc))) r
       added = a i.acc next.name i.front (y ∙ next.spelt)
 
@@ -155,7 +153,7 @@ module _ (s w : Bytes) (at q n : ℕ) (ls : List Bytes) (rest : Bytes) (i : Labe
       unfolding insert_names
       whole = sym (ap (λ (l : List Bytes). insert_names l i.acc) next.left) ∙ i.all
 
-      pub label-on : (k : ℕ) → r ≡ Len k → Labelling s w' at (e + 1) k ls rest
+      pub label-on : (k : ℕ) → r ≡ Some k → Labelling s w' at (e + 1) k ls rest
       unfolding names_to
       label-on k f =
           let m = next.name in
@@ -176,7 +174,7 @@ module _ (s w : Bytes) (at q n : ℕ) (ls : List Bytes) (rest : Bytes) (i : Labe
           spelt-long : e ≡ q + length next.name
           spelt-long = omega (arith, ap length next.spelt, length-map next.name hex, length-slice q e s (omega (arith, next.inside)), z)
 
-      pub label-large : r ≡ TooLarge → MadeAs w w' (at + length (names_to ls [])) (t_node (some (insert_names ls []))) Large
+      pub label-large : r ≡ None → MadeAs w w' (at + length (names_to ls [])) (t_node (some (insert_names ls []))) None
       label-large f =
           let m = next.name in
           let u = t_node (some (insert_name m i.acc)) in
@@ -185,13 +183,13 @@ module _ (s w : Bytes) (at q n : ℕ) (ls : List Bytes) (rest : Bytes) (i : Labe
           record { answer = rw o; stands = λ h. absurd (false≢true (sym h ∙ o)); long = added.long }
 
   -- no label is left
-  pub labels-done : field_at s q 33 ≡ true → MadeAs w w (at + length (names_to ls [])) (t_node (some (insert_names ls []))) (Done (q + 2) n)
+  pub labels-done : field_at s q 33 ≡ true → MadeAs w w (at + length (names_to ls [])) (t_node (some (insert_names ls []))) (Some (record { end = q + 2; len = n }))
   unfolding names_to insert_names
   labels-done g = go i.left i.here i.all i.place
     where
       go : (l : List Bytes) → drop q s ≡ names_to l rest → insert_names l i.acc ≡ insert_names ls [] → at + length (names_to ls []) ≡ q + length (names_to l [])
-          → MadeAs w w (at + length (names_to ls [])) (t_node (some (insert_names ls []))) (Done (q + 2) n)
+          → MadeAs w w (at + length (names_to ls [])) (t_node (some (insert_names ls []))) (Some (record { end = q + 2; len = n }))
       go [] h a p =
           let f : length (line (t_node (some i.acc))) ≡ n = omega (arith, type-long i.front.at) in
-          rw (sym a, p) (record { answer = rw i.small (ap (Done (q + 2)) (sym f)); stands = λ _. subst (λ (j : ℕ). TypeAt w 0 j (t_node (some i.acc))) (sym f) i.front.at; long = refl })
+          rw (sym a, p) (record { answer = rw i.small (ap (λ (k : ℕ). Some (record { end = q + 2; len = k })) (sym f)); stands = λ _. subst (λ (j : ℕ). TypeAt w 0 j (t_node (some i.acc))) (sym f) i.front.at; long = refl })
       go (m ∷ l) h a p = absurd (head-name s q m (head_at s q m (names_to l rest) h) (byte_at s q (44 ∷ drop (q + 2) s) 33 (field-yes s q 33 g).0))

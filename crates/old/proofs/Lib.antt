@@ -1,6 +1,5 @@
 pub mod Entered
-pub mod OldReads
-pub mod OldFlat
+pub mod LooseForm
 pub mod OldLine
 pub mod LabelSeek
 pub mod Answers

@@ -7,6 +7,9 @@ use native.Mathlib.Nat.{zero-add}
 use native.Mathlib.Omega.{arith}
 use lib.ListN.{length, take, drop, get_or, length-drop, length-append}
 use borrow.Author.Tests.{eqb-true, eqb-false, ltb-false}
+use Rattle.std.specs.Prelude.{Option, Some, None}
+use Rattle.std.specs.Option.{option_map}
+use Rattle.std.proofs.lemmas.Option.{none-some, same_Some}
 use Rattle.semantics.specs.Bytes.{Bytes}
 use Rattle.semantics.specs.Ty.{Ty, base, t_list, t_map, t_node, t_relationship, t_union, Tys, ∅, ◌⊕◌, Fields, ∅ᶠ, field, names, letter, name_to, line_to, fields_to, members_to, line, nesting, nesting_s, nesting_f, too_large, inserts, opened, gather, joined, unite, set_field, members, pack, base_in}
 use Rattle.semantics.specs.Limits.{type_limit}
@@ -16,25 +19,23 @@ use Rattle.unify_run.proofs.Size.{NoLarger, below-trans, below-large, small-soun
 use Rattle.ty.specs.Parts.{lines_of, TypeAt}
 use Rattle.ty.specs.Union.{overlong}
 use Rattle.ty.specs.Skip.{next_field}
+use Rattle.ty.specs.declared.end.Content.TheVariants.{Types}
 use Rattle.ty.specs.Read.{kind_of, content_of, goes_in, value_at}
 use Rattle.ty.specs.Made.{Made as Stands, made as grown_by}
 use Rattle.ty.specs.Merging.{head_to}
-use Rattle.ty.specs.declared.Grown.{Grown}
-use Rattle.ty.specs.declared.Grown.TheVariants.{Len, TooLarge}
 use Rattle.ty.proofs.Lines.{line-to, nesting-pos}
 use Rattle.ty.proofs.NameLaws.{head-name}
 use Rattle.ty.proofs.Places.{past, byte_at}
 use Rattle.ty.proofs.Skips.{name-past, type-inside}
-use Rattle.ty.proofs.Fields.{content_t, content-kind, content-pos, type-byte, flat-nesting}
+use Rattle.ty.proofs.Fields.{content_t, content-kind, type-byte, flat-nesting}
 use Rattle.ty.proofs.Inner.{closed, not-closed}
 use Rattle.ty.proofs.Loops.{value-bounds}
 use Rattle.ty.proofs.Members.{union-line, members-pack, line-long}
 use Rattle.ty.proofs.UnionGrows.{overlong-large}
 use Rattle.old_lines.specs.Old.{distinct, distinct_names, distinct_names_s, distinct_names_f, made, made_s}
+use Rattle.old.specs.declared.RegularType.{RegularType}
 use Rattle.old.specs.Read.{Within, end_of}
-use Rattle.old.specs.declared.Answer.{Answer}
-use Rattle.old.specs.declared.Answer.TheVariants.{Done, Large}
-use Rattle.old.specs.Make.{made_by, MadeAs, OldAt, MakesAt, Acc, opening, listed, mapped, united, acc_kind, AccAt, joined_by, acc_large, acc_long, acc_type, start_of, StartedAs, Join, SomeJoin, JoinedAs, Joins, Ending, SomeEnding, ended_by}
+use Rattle.old.specs.Make.{made_by, MadeAs, OldAt, MakesAt, Acc, opening, listed, mapped, united, acc_kind, AccAt, joined_by, acc_large, acc_long, acc_type, start_of, StartedAs, Join, SomeJoin, JoinedAs, Joins, Ending, SomeEnding}
 use Rattle.old.specs.Make.{Ends as Ended}
 use Rattle.old_lines.proofs.Alike.{first-true, second-true}
 use Rattle.old_lines.proofs.Made.{inserts-append}
@@ -78,7 +79,7 @@ union-small : acc_large (united []) ≡ false
 unfolding overlong joined line line_to letter
 union-small = refl
 
-module _ (s w w₁ : Bytes) (at left k n : ℕ) (e : k ≡ get_or s at 0) (c : 4 ≤ content_of k) (st : StartedAs w w₁ k n) where
+module _ (s w w₁ : Bytes) (at left k n : ℕ) (e : k ≡ get_or s at 0) (c : content_of k ≡ Some Types) (st : StartedAs w w₁ k n) where
   pub making : (t : Ty) (rest : Bytes) → drop at s ≡ line_to t rest → Within left t → Making s w₁ at left k (at + 2) 0 n t rest
   unfolding line_to kind_of content_t nesting distinct_names made start_of inserts
   making t rest d w = go t d w (e ∙ type-byte s at t rest d) (content-kind t)
@@ -86,10 +87,10 @@ module _ (s w w₁ : Bytes) (at left k n : ℕ) (e : k ≡ get_or s at 0) (c : 4
       behind : (y : Bytes) (b : ℕ) → drop at s ≡ b ∷ 44 ∷ y → (drop (at + 2) s ≡ y) × (at + 2 ≤ length s)
       behind y b h = (past s at (b ∷ 44 ∷ []) y h, omega (arith, length-drop at s, ap length h))
 
-      go : (t : Ty) → drop at s ≡ line_to t rest → Within left t → k ≡ kind_of t → content_of (kind_of t) ≡ content_t t → Making s w₁ at left k (at + 2) 0 n t rest
-      go (base b) d w z o = absurd (omega (arith, ap content_of z))
-      go (t_node ls) d w z o = absurd (omega (arith, ap content_of z))
-      go (t_relationship m) d w z o = absurd (omega (arith, ap content_of z))
+      go : (t : Ty) → drop at s ≡ line_to t rest → Within left t → k ≡ kind_of t → content_of (kind_of t) ≡ Some (content_t t) → Making s w₁ at left k (at + 2) 0 n t rest
+      go (base b) d w z o = absurd (cc (ap content_of z))
+      go (t_node ls) d w z o = absurd (cc (ap content_of z))
+      go (t_relationship m) d w z o = absurd (cc (ap content_of z))
       go (t_list t) d w z o =
           let b = behind (line_to t rest) 74 d in
           rw z
@@ -201,27 +202,15 @@ child s q {r = r} {whole} g x (some_members (t ⊕ ts) src ms e f d h z m) =
 
 -- ## Its answer
 
-abbrev end_in : Answer → ℕ
-end_in (Done end len) = end
-end_in Large = 0
+pub answer-done : (b : Bool) (e l : ℕ) (p : RegularType) (r : Option RegularType) → r ≡ made_by b e l → r ≡ Some p → (b ≡ false) × (e ≡ p.end) × (l ≡ p.len)
+answer-done true e l p r h f = absurd (none-some p (sym h ∙ f))
+answer-done false e l p r h f = let z = same_Some (record { end = e; len = l }) p (sym h ∙ f) in (refl, ap (λ (x : RegularType). x.end) z, ap (λ (x : RegularType). x.len) z)
 
-abbrev len_in : Answer → ℕ
-len_in (Done end len) = len
-len_in Large = 0
-
-abbrev large_in : Answer → Bool
-large_in (Done end len) = false
-large_in Large = true
-
-pub answer-done : (b : Bool) (e l end len : ℕ) (r : Answer) → r ≡ made_by b e l → r ≡ Done end len → (b ≡ false) × (e ≡ end) × (l ≡ len)
-answer-done true e l end len r h f = absurd (false≢true (ap large_in (sym f ∙ h)))
-answer-done false e l end len r h f = (refl, ap end_in (sym h ∙ f), ap len_in (sym h ∙ f))
-
-pub answer-large : (b : Bool) (e l : ℕ) (r : Answer) → r ≡ made_by b e l → r ≡ Large → b ≡ true
+pub answer-large : (b : Bool) (e l : ℕ) (r : Option RegularType) → r ≡ made_by b e l → r ≡ None → b ≡ true
 answer-large true e l r h f = refl
-answer-large false e l r h f = absurd (false≢true (ap large_in (sym h ∙ f)))
+answer-large false e l r h f = absurd (none-some (record { end = e; len = l }) (sym f ∙ h))
 
-pub too_large_lem : {w₀ w : Bytes} {end : ℕ} {u : Ty} → length w ≡ length w₀ → too_large u ≡ true → MadeAs w₀ w end u Large
+pub too_large_lem : {w₀ w : Bytes} {end : ℕ} {u : Ty} → length w ≡ length w₀ → too_large u ≡ true → MadeAs w₀ w end u None
 too_large_lem l o = record { answer = rw o; stands = λ h. absurd (false≢true (sym h ∙ o)); long = l }
 
 lines-joined : (ms : List Ty) → length (lines_of ms) ≤ length (line (joined ms))
@@ -249,31 +238,31 @@ module _ (s w : Bytes) (at left k q i n : ℕ) (ty : Ty) (rest : Bytes) (m : Mak
   pub child-old : OldAt s (value_at k s q) (left - 1)
   child-old = record { ty = next.ty; rest = next.rest; is = next.is; within = next.within }
 
-  module _ (ws w₁ : Bytes) (v : ℕ) (zv : v ≡ value_at k s q) (r : Answer) (h : MakesAt s ws w₁ v (left - 1) r) where
+  module _ (ws w₁ : Bytes) (v : ℕ) (zv : v ≡ value_at k s q) (r : Option RegularType) (h : MakesAt s ws w₁ v (left - 1) r) where
     made-child : MadeAs ws w₁ (v + length (line next.ty)) (made next.ty) r
     made-child = h next.ty next.rest (rw zv next.is) next.within
 
-    pub child-large : r ≡ Large → too_large (made ty) ≡ true
+    pub child-large : r ≡ None → too_large (made ty) ≡ true
     child-large d = below-large next.held (answer-large (too_large (made next.ty)) (v + length (line next.ty)) (length (line (made next.ty))) r made-child.answer d)
 
-    module _ (end len : ℕ) (d : r ≡ Done end len) where
-      told : (too_large (made next.ty) ≡ false) × (v + length (line next.ty) ≡ end) × (length (line (made next.ty)) ≡ len)
-      told = answer-done (too_large (made next.ty)) (v + length (line next.ty)) (length (line (made next.ty))) end len r made-child.answer d
+    module _ (p : RegularType) (d : r ≡ Some p) where
+      told : (too_large (made next.ty) ≡ false) × (v + length (line next.ty) ≡ p.end) × (length (line (made next.ty)) ≡ p.len)
+      told = answer-done (too_large (made next.ty)) (v + length (line next.ty)) (length (line (made next.ty))) p r made-child.answer d
 
-      pub child-bounds : (q < end) × (end ≤ length s) × (len ≤ 1024)
+      pub child-bounds : (q < p.end) × (p.end ≤ length s) × (p.len ≤ 1024)
       child-bounds =
           let t = told in
           let b = value-bounds k s q m.inside in
           (omega (arith, zv, t.1, b.0, line-long next.ty), omega (arith, zv, t.1, type-inside s (value_at k s q) next.ty next.rest next.is), omega (arith, (small-sound (made next.ty) t.0).0, t.2))
 
-      behind-child : drop end s ≡ next.rest
+      behind-child : drop p.end s ≡ next.rest
       behind-child = subst (λ (j : ℕ). drop j s ≡ next.rest) told.1 (past s v (line next.ty) next.rest (rw zv next.is ∙ line-to next.ty next.rest))
 
       module _ (hn : n ≤ length w) (l : length w₁ ≡ length (take (length w - n) (drop n w))) where
-        stood : TypeAt (put_back w n w₁) n (n + len) (made next.ty)
+        stood : TypeAt (put_back w n w₁) n (n + p.len) (made next.ty)
         stood = type_up w w₁ n hn l (subst (λ (j : ℕ). TypeAt w₁ 0 j (made next.ty)) told.2 (made-child.stands told.0))
 
-        the-join : 1024 ≤ length w → Join s k q (put_back w n w₁) n (n + len) m.acc next.name (made next.ty)
+        the-join : 1024 ≤ length w → Join s k q (put_back w n w₁) n (n + p.len) m.acc next.name (made next.ty)
         the-join o =
             record {
               kind = next.kind;
@@ -286,17 +275,17 @@ module _ (s w : Bytes) (at left k q i n : ℕ) (ty : Ty) (rest : Bytes) (m : Mak
               small = m.small;
             }
 
-        pub join-ready : 1024 ≤ length w → SomeJoin s k q (put_back w n w₁) n (n + len)
+        pub join-ready : 1024 ≤ length w → SomeJoin s k q (put_back w n w₁) n (n + p.len)
         join-ready o = record { acc = m.acc; name = next.name; ty = made next.ty; join = the-join o }
 
-        module _ (o : 1024 ≤ length w) (w₂ : Bytes) (gr : Grown) (j : Joins s k q (put_back w n w₁) w₂ n (n + len) gr) where
+        module _ (o : 1024 ≤ length w) (w₂ : Bytes) (gr : Option ℕ) (j : Joins s k q (put_back w n w₁) w₂ n (n + p.len) gr) where
           joint : JoinedAs (put_back w n w₁) w₂ (joined_by m.acc next.name (made next.ty)) gr
           joint = j m.acc next.name (made next.ty) (the-join o)
 
           pub step-long : length w₂ ≡ length w
           step-long = joint.long ∙ put-long w w₁ n hn l
 
-          pub step-on : (n' : ℕ) → gr ≡ Len n' → Making s w₂ at left k end (i + 1) n' ty rest
+          pub step-on : (n' : ℕ) → gr ≡ Some n' → Making s w₂ at left k p.end (i + 1) n' ty rest
           step-on n' f =
               let a = joined_by m.acc next.name (made next.ty) in
               let (b, z) = grown-len (acc_large a) (acc_long a) n' gr joint.answer f in
@@ -304,20 +293,23 @@ module _ (s w : Bytes) (at left k q i n : ℕ) (ty : Ty) (rest : Bytes) (m : Mak
                 acc = a;
                 front = subst (λ (x : ℕ). AccAt a w₂ x) z (joint.stands b);
                 small = b;
-                parts = next.next end behind-child;
+                parts = next.next p.end behind-child;
                 inside = child-bounds.1;
                 from = omega (arith, m.from, child-bounds.0);
                 few = omega (arith, z, join-few m.acc next.name (made next.ty) (small-sound (made next.ty) told.0).0 b);
               }
 
-          pub step-large : gr ≡ TooLarge → too_large (made ty) ≡ true
+          pub step-large : gr ≡ None → too_large (made ty) ≡ true
           step-large f = let a = joined_by m.acc next.name (made next.ty) in next.large (grown-large (acc_large a) (acc_long a) gr joint.answer f)
 
 -- ## The end
 
+abbrev pub at_end : ℕ → ℕ → RegularType
+at_end e j = record { end = e; len = j }
+
 not-mark : (t : Ty) → kind_of t ≡ 33 → ⊥
 unfolding content_t content_of base_in letter
-not-mark t e = let z : content_of 33 ≡ 0 = refl in omega (arith, content-kind t, ap content_of e, content-pos t)
+not-mark t e = none-some (content_t t) (ap content_of (sym e) ∙ content-kind t)
 
 record Over (s : Bytes) (k q : ℕ) (r : Bytes) (whole : Ty) (a : Acc) : Type 0 where
   kind : k ≡ acc_kind a
@@ -357,33 +349,33 @@ module _ (s w : Bytes) (at left k q i n : ℕ) (ty : Ty) (rest : Bytes) (m : Mak
   pub end-ready : 3096 ≤ length w → SomeEnding k w n
   end-ready h = record { acc = m.acc; ending = the_end h }
 
-  pub end-inside : end_of k q ≤ length s
-  end-inside = done.inside
-
-  pub finished : 3096 ≤ length w → drop at s ≡ line_to ty rest → (w₀ w' : Bytes) → length w ≡ length w₀ → (gr : Grown) → Ended k w w' n gr → (e : ℕ) → e ≡ end_of k q → (r : Answer) → r ≡ ended_by gr e
-      → MadeAs w₀ w' (at + length (line ty)) (made ty) r
-  finished h d w₀ w' l gr f e z r o =
+  pub finished : 3096 ≤ length w → drop at s ≡ line_to ty rest → (w₀ w' : Bytes) → length w ≡ length w₀ → (gr : Option ℕ) → Ended k w w' n gr → (r : Option RegularType)
+      → r ≡ option_map (at_end (end_of k q)) gr → MadeAs w₀ w' (at + length (line ty)) (made ty) r
+  finished h d w₀ w' l gr f r o =
       let a = f m.acc (the_end h) in
       let place : end_of k q ≡ at + length (line ty) = omega (arith, type-inside s at ty rest d, length-drop (end_of k q) s, ap length done.behind, done.inside) in
       let b : Stands w w' 0 (made ty) gr = subst (λ (u : Ty). Stands w w' 0 u gr) done.is a in
       record {
-        answer = o ∙ ap₂ ended_by b.answer (z ∙ place) ∙ ended-made (too_large (made ty)) (length (line (made ty))) (at + length (line ty));
+        answer = o ∙ ap₂ ended_by b.answer place ∙ ended-made (too_large (made ty)) (length (line (made ty))) (at + length (line ty));
         stands = λ c. subst (λ (j : ℕ). TypeAt w' 0 j (made ty)) (zero-add (length (line (made ty)))) (b.stands c);
         long = b.long ∙ l;
       }
     where
+      ended_by : Option ℕ → ℕ → Option RegularType
+      ended_by g e = option_map (at_end e) g
+
       ended-made : (b : Bool) (n e : ℕ) → ended_by (grown_by b n) e ≡ made_by b e n
       ended-made true n e = refl
       ended-made false n e = refl
 
 -- ## A type that holds no types
 
-module _ (s : Bytes) (at left : ℕ) (c : content_of (get_or s at 0) < 4) where
+module _ (s : Bytes) (at left : ℕ) (c : content_of (get_or s at 0) ≡ Some Types → ⊥) where
   flat-one : (t : Ty) (rest : Bytes) → drop at s ≡ line_to t rest → nesting t ≡ 1
-  flat-one t rest d = flat-nesting t (omega (arith, content-kind t, ap content_of (type-byte s at t rest d)))
+  flat-one t rest d = flat-nesting t (λ y. c (ap content_of (type-byte s at t rest d) ∙ content-kind t ∙ ap Some y))
 
   pub flat-old : OldAt s at left → OldAt s at 1
   flat-old o = record { ty = o.ty; rest = o.rest; is = o.is; within = (o.within.0, omega (arith, flat-one o.ty o.rest o.is)) }
 
-  pub flat-makes : (w w' : Bytes) (r : Answer) → MakesAt s w w' at 1 r → MakesAt s w w' at left r
+  pub flat-makes : (w w' : Bytes) (r : Option RegularType) → MakesAt s w w' at 1 r → MakesAt s w w' at left r
   flat-makes w w' r h t rest d v = h t rest d (v.0, omega (arith, flat-one t rest d))

@@ -2,13 +2,14 @@
 use mathlib.Core.Path.{◌≡◌, refl, sym, ◌∙◌, ap, ap₂, subst}
 use mathlib.Core.List.{List, [], ◌∷◌, ◌++◌, map}
 use mathlib.Core.Option.{none, some}
-use mathlib.Core.Bool.{Bool, true, false, not}
+use mathlib.Core.Bool.{Bool, true, false, cond, not}
 use Prim.Native.Nat.{ℕ, ◌+◌, ◌-◌, ◌≤◌, ◌<◌}
 use native.Mathlib.Nat.{zero-add}
 use native.Mathlib.Omega.{arith}
 use lib.ListN.{length, take, drop, get_or, length-drop}
 use lib.Seq.{slice, sets, length-sets}
 use borrow.Author.Tests.{eq-eqb, ne_eqb}
+use Rattle.std.specs.Prelude.{Option, Some, None}
 use Rattle.text.specs.Text.{index_of}
 use Rattle.semantics.specs.Bytes.{Bytes, hex}
 use Rattle.semantics.specs.Ty.{Ty, base, t_list, t_map, t_node, t_relationship, t_union, name_to, names_to, labels_to, rel_to, line_to, fields_to, line, nesting, too_large, inserts, opened, joined, set_field, insert_names}
@@ -16,22 +17,20 @@ use Rattle.semantics.proofs.Named.{Names, Named}
 use Rattle.unify_run.proofs.Size.{small-true}
 use Rattle.text.proofs.Laws.{slice-sets, slice-join}
 use Rattle.ty.specs.Parts.{lines_of, TypeAt, TypeFrom, EndsAt}
-use Rattle.ty.specs.Union.{overlong, Placing, AddedOpened, Closing, Closed, grown}
+use Rattle.ty.specs.Union.{AddedOpened, Closed}
 use Rattle.ty.specs.Entry.{Entered}
+use Rattle.ty.specs.declared.end.Content.TheVariants.{Types}
 use Rattle.ty.specs.Read.{kind_of, content_of}
 use Rattle.ty.specs.Made.{Made as Stands, made as grown_by}
-use Rattle.ty.specs.declared.Grown.{Grown}
-use Rattle.ty.specs.declared.Grown.TheVariants.{Len, TooLarge}
 use Rattle.ty.proofs.Lines.{line-to, letter-away, special}
 use Rattle.ty.proofs.NameLaws.{name-long}
 use Rattle.ty.proofs.Places.{past, part, byte_past, byte_at}
 use Rattle.ty.proofs.Skips.{type-inside}
 use Rattle.ty.proofs.Fields.{content_t, content-kind, type-byte, name_part}
-use Rattle.ty.proofs.EntryLaws.{front-from, tested-fits, tested-large}
+use Rattle.ty.proofs.EntryLaws.{front-from}
 use Rattle.old_lines.specs.Old.{made, made_labels}
+use Rattle.old.specs.declared.RegularType.{RegularType}
 use Rattle.old.specs.Read.{Within}
-use Rattle.old.specs.declared.Answer.{Answer}
-use Rattle.old.specs.declared.Answer.TheVariants.{Done}
 use Rattle.old.specs.Make.{MadeAs, OldAt, MakesAt, SamePlace, Copies, SomeNames, LabelsMade, Acc, opening, listed, mapped, united, AccAt, joined_by, acc_type, start_of, StartedAs, Join, SomeJoin, EnteringMap, JoinedAs, Joins, Ending, SomeEnding}
 use Rattle.old.proofs.Answers.{type-long}
 use Rattle.old.proofs.EntryDepth.{one_map}
@@ -46,7 +45,7 @@ copy-bounds s at e p h =
     let z = h p.ty p.rest p.is in
     (omega arith, omega (arith, type-inside s at p.ty p.rest p.is), omega (arith, p.small))
 
-pub copies : (s w w' : Bytes) (at e n : ℕ) (x : Bytes) → SamePlace s at → 1024 ≤ length w → EndsAt s at e → x ≡ slice at e s → (n ≡ 0 + length x) × (w' ≡ sets w 0 x) → Copies s w w' at (Done e n)
+pub copies : (s w w' : Bytes) (at e n : ℕ) (x : Bytes) → SamePlace s at → 1024 ≤ length w → EndsAt s at e → x ≡ slice at e s → (n ≡ 0 + length x) × (w' ≡ sets w 0 x) → Copies s w w' at (Some (record { end = e; len = n }))
 copies s w w' at e n x p room h y o t rest d m b =
     let z = h t rest d in
     let i : slice at e s ≡ line t = rw z (part s at (line t) rest (d ∙ line-to t rest)) in
@@ -55,9 +54,9 @@ copies s w w' at e n x p room h y o t rest d m b =
     let l : n ≡ length (line t) = omega (arith, o.0, ap length is) in
     let f : w' ≡ sets w 0 (line t) = o.1 ∙ ap (sets w 0) is in
     let fits : length (line t) ≤ length w = omega arith in
-    subst (λ (u : Ty). MadeAs w w' (at + length (line t)) u (Done e n)) (sym m)
+    subst (λ (u : Ty). MadeAs w w' (at + length (line t)) u (Some (record { end = e; len = n }))) (sym m)
     (record {
-      answer = rw b (ap₂ Done z l);
+      answer = rw b (ap₂ (λ (j k : ℕ). Some (record { end = j; len = k })) z l);
       stands = λ _. record { ordered = omega arith; inside = rw f (omega (arith, length-sets w 0 (line t))); is = rw f (front-sets w (line t) fits) };
       long = ap length f ∙ length-sets w 0 (line t);
     })
@@ -72,11 +71,11 @@ data Flat (t : Ty) : Type 0 where
   plain : made t ≡ t → too_large t ≡ false → length (line t) ≤ 1024 → (kind_of t ≡ 76 → t ≡ t_node none) → Flat t
   noded : (ls : List Bytes) → t ≡ t_node (some ls) → Names ls → Flat t
 
-flat : (t : Ty) → Named t → content_t t < 4 → Flat t
+flat : (t : Ty) → Named t → (content_t t ≡ Types → ⊥) → Flat t
 unfolding made made_labels line line_to labels_to rel_to nesting content_t kind_of
 flat (base b) h c = plain refl (small-true (base b) (omega arith, omega arith)) (omega arith) (λ e. absurd (letter-away b 76 special-node e))
-flat (t_list t) h c = absurd (omega arith)
-flat (t_map fs) h c = absurd (omega arith)
+flat (t_list t) h c = absurd (c refl)
+flat (t_map fs) h c = absurd (c refl)
 flat (t_node none) h c = plain refl (small-true (t_node none) (omega arith, omega arith)) (omega arith) (λ e. refl)
 flat (t_node (some ls)) h c = noded ls refl h
 flat (t_relationship none) h c = plain refl (small-true (t_relationship none) (omega arith, omega arith)) (omega arith) (λ e. absurd (omega arith))
@@ -84,15 +83,15 @@ flat (t_relationship (some n)) h c =
     let l = name-long n [] in
     let o = h.2 in
     plain refl (small-true (t_relationship (some n)) (omega arith, omega arith)) (omega arith) (λ e. absurd (omega arith))
-flat (t_union ts) h c = absurd (omega arith)
+flat (t_union ts) h c = absurd (c refl)
 
 module _ (s : Bytes) (at : ℕ) where
   pub old-from : {l : ℕ} → OldAt s at l → TypeFrom s at
   old-from o = record { ty = o.ty; rest = o.rest; is = o.is }
 
-  module _ (c : content_of (get_or s at 0) < 4) where
+  module _ (c : content_of (get_or s at 0) ≡ Some Types → ⊥) where
     flat-at : (t : Ty) (rest : Bytes) → drop at s ≡ line_to t rest → Within 1 t → Flat t
-    flat-at t rest d w = flat t w.0.0 (omega (arith, content-kind t, ap content_of (type-byte s at t rest d)))
+    flat-at t rest d w = flat t w.0.0 (λ y. c (ap content_of (type-byte s at t rest d) ∙ content-kind t ∙ ap Some y))
 
     label-byte : (ls : List Bytes) (rest : Bytes) → drop at s ≡ line_to (t_node (some ls)) rest → (get_or s at 0 ≡ 76) × (get_or s (at + 2) 0 ≡ 43)
     unfolding line_to labels_to
@@ -111,7 +110,7 @@ module _ (s : Bytes) (at : ℕ) where
           go (plain m b l k) = record { ty = o.ty; rest = o.rest; is = o.is; small = l }
           go (noded ls e n) = absurd (no (label-byte ls o.rest (rw e at o.is)))
 
-      pub flat-copied : (w w' : Bytes) (r : Answer) → Copies s w w' at r → MakesAt s w w' at 1 r
+      pub flat-copied : (w w' : Bytes) (r : Option RegularType) → Copies s w w' at r → MakesAt s w w' at 1 r
       flat-copied w w' r h t rest d v = go (flat-at t rest d v)
         where
           go : Flat t → MadeAs w w' (at + length (line t)) (made t) r
@@ -128,7 +127,7 @@ module _ (s : Bytes) (at : ℕ) where
           go (plain m z l k) = let e = k (sym (type-byte s at o.ty o.rest o.is) ∙ a) in absurd (omega (arith, none-byte o.rest (rw e at o.is)))
           go (noded ls e n) = record { labels = ls; rest = o.rest; is = past s at (76 ∷ 44 ∷ 43 ∷ 44 ∷ []) (names_to ls o.rest) (rw e at o.is); good = n }
 
-      pub labels-made : (w w' : Bytes) (r : Answer) → LabelsMade s w w' (at + 4) r → MakesAt s w w' at 1 r
+      pub labels-made : (w w' : Bytes) (r : Option RegularType) → LabelsMade s w w' (at + 4) r → MakesAt s w w' at 1 r
       unfolding line_to labels_to line made made_labels
       labels-made w w' r h t rest d v = go (flat-at t rest d v)
         where
@@ -164,10 +163,6 @@ start-union w k a b = record { at = rw (ne_eqb k 74 a, ne_eqb k 75 b) (record { 
 
 -- ## One inner type more
 
-grown-made : (b : Bool) (n : ℕ) → grown b n ≡ grown_by b n
-grown-made true n = refl
-grown-made false n = refl
-
 list_at : (w : Bytes) (end : ℕ) (u : Ty) → take 2 w ≡ 74 ∷ 44 ∷ [] → TypeAt w 2 end u → TypeAt w 0 end (t_list u)
 unfolding line line_to
 list_at w end u h f =
@@ -178,9 +173,9 @@ list_at w end u h f =
     }
 
 module _ (s : Bytes) (k q : ℕ) (w : Bytes) (n end : ℕ) where
-  pub join-list : k ≡ 74 → Joins s k q w w n end (Len end)
+  pub join-list : k ≡ 74 → Joins s k q w w n end (Some end)
   unfolding line line_to
-  join-list z a m u j = subst (λ (b : Acc). JoinedAs w w (joined_by b m u) (Len end)) (sym (j.first z)) whole
+  join-list z a m u j = subst (λ (b : Acc). JoinedAs w w (joined_by b m u) (Some end)) (sym (j.first z)) whole
     where
       at : AccAt opening w n
       at = subst (λ (b : Acc). AccAt b w n) (j.first z) j.at
@@ -188,10 +183,10 @@ module _ (s : Bytes) (k q : ℕ) (w : Bytes) (n end : ℕ) where
       stood : TypeAt w 0 end (t_list u)
       stood = list_at w end u at.2 (rw at.0 at j.new)
 
-      whole : JoinedAs w w (listed u) (Len end)
+      whole : JoinedAs w w (listed u) (Some end)
       whole =
           let l : length (line (t_list u)) ≡ end = omega (arith, type-long stood) in
-          record { answer = ap Len (sym l); stands = λ _. subst (λ (i : ℕ). TypeAt w 0 i (t_list u)) (sym l) stood; long = refl }
+          record { answer = ap Some (sym l); stands = λ _. subst (λ (i : ℕ). TypeAt w 0 i (t_list u)) (sym l) stood; long = refl }
 
   module _ (z : k ≡ 75) (c : ℕ) (x : Bytes) (y : x ≡ slice q c s) (f : c ≡ q + index_of 44 (drop q s)) where
     spelt : (m : Bytes) (rest : Bytes) → drop q s ≡ name_to m rest → x ≡ map hex m
@@ -215,7 +210,7 @@ module _ (s : Bytes) (k q : ℕ) (w : Bytes) (n end : ℕ) where
             }
         go (united ms) j = absurd (omega (arith, j.kind))
 
-    pub join-map : (w' : Bytes) (r : Grown) → Entered w w' n end x r → Joins s k q w w' n end r
+    pub join-map : (w' : Bytes) (r : Option ℕ) → Entered w w' n end x r → Joins s k q w w' n end r
     join-map w' r h opening m u j = absurd (omega (arith, j.kind))
     join-map w' r h (listed v) m u j = absurd (omega (arith, j.kind))
     join-map w' r h (mapped fs) m u j =
@@ -224,23 +219,14 @@ module _ (s : Bytes) (k q : ℕ) (w : Bytes) (n end : ℕ) where
     join-map w' r h (united ms) m u j = absurd (omega (arith, j.kind))
 
   module _ (a : k ≡ 74 → ⊥) (b : k ≡ 75 → ⊥) where
-    pub member-ready : SomeJoin s k q w n end → Placing w n end
-    member-ready p = go p.acc p.join
-      where
-        go : (c : Acc) → Join s k q w n end c p.name p.ty → Placing w n end
-        go opening j = absurd (a j.kind)
-        go (listed v) j = absurd (a j.kind)
-        go (mapped fs) j = absurd (b j.kind)
-        go (united ms) j = record { members = ms; front = j.at; new = record { ty = p.ty; at = j.new } }
-
-    pub join-union : (w' : Bytes) (r : Grown) → AddedOpened w w' n end r → Joins s k q w w' n end r
+    pub join-union : (w' : Bytes) (r : Option ℕ) → AddedOpened w w' n end r → Joins s k q w w' n end r
     join-union w' r h opening m u j = absurd (a j.kind)
     join-union w' r h (listed v) m u j = absurd (a j.kind)
     join-union w' r h (mapped fs) m u j = absurd (b j.kind)
     join-union w' r h (united ms) m u j =
         let o = h ms u j.at j.new in
         let us = inserts (opened u) ms in
-        record { answer = o.answer ∙ grown-made (overlong us) (length (lines_of us)); stands = λ _. o.front; long = o.long }
+        record { answer = o.answer; stands = λ _. o.front; long = o.long }
 
 -- ## The end
 
@@ -254,13 +240,10 @@ module _ (k : ℕ) (w : Bytes) (n : ℕ) where
       go (mapped fs) e = absurd (omega (arith, e.kind))
       go (united ms) e = absurd (omega (arith, e.kind))
 
-  pub some-inside : SomeEnding k w n → n ≤ length w
-  some-inside p = omega (arith, p.ending.room)
-
   long-at : {t : Ty} → TypeAt w 0 n t → length (line t) ≡ n
   long-at f = omega (arith, type-long f)
 
-  as-answer : (t : Ty) (r : Grown) → TypeAt w 0 n t → r ≡ grown_by (too_large t) n → Stands w w 0 t r
+  as-answer : (t : Ty) (r : Option ℕ) → TypeAt w 0 n t → r ≡ grown_by (too_large t) n → Stands w w 0 t r
   as-answer t r f h =
       record {
         answer = h ∙ ap (grown_by (too_large t)) (sym (long-at f));
@@ -270,35 +253,24 @@ module _ (k : ℕ) (w : Bytes) (n : ℕ) where
       }
 
   module _ (z : k ≡ 74) (b : Bool) (h : (t : Ty) → take n w ≡ line t → b ≡ not (too_large t)) where
-    pub list-fits : b ≡ true → (a : Acc) → Ending k w n a → Stands w w 0 (acc_type a) (Len n)
-    list-fits f opening e = absurd (e.some refl)
-    list-fits f (listed u) e = as-answer (t_list u) (Len n) e.at (tested-fits n (t_list u) b (h (t_list u) e.at.is) f)
-    list-fits f (mapped fs) e = absurd (omega (arith, e.kind))
-    list-fits f (united ms) e = absurd (omega (arith, e.kind))
+    pub list-tested : (r : Option ℕ) → r ≡ cond b (Some n) None → (a : Acc) → Ending k w n a → Stands w w 0 (acc_type a) r
+    list-tested r f opening e = absurd (e.some refl)
+    list-tested r f (listed u) e = as-answer (t_list u) r e.at (f ∙ go (too_large (t_list u)) (h (t_list u) e.at.is))
+      where
+        go : (c : Bool) → b ≡ not c → cond b (Some n) None ≡ grown_by c n
+        go true e = rw e
+        go false e = rw e
+    list-tested r f (mapped fs) e = absurd (omega (arith, e.kind))
+    list-tested r f (united ms) e = absurd (omega (arith, e.kind))
 
-    pub list-large : b ≡ false → (a : Acc) → Ending k w n a → Stands w w 0 (acc_type a) TooLarge
-    list-large f opening e = absurd (e.some refl)
-    list-large f (listed u) e = as-answer (t_list u) TooLarge e.at (tested-large n (t_list u) b (h (t_list u) e.at.is) f)
-    list-large f (mapped fs) e = absurd (omega (arith, e.kind))
-    list-large f (united ms) e = absurd (omega (arith, e.kind))
-
-  pub map-done : k ≡ 75 → (a : Acc) → Ending k w n a → Stands w w 0 (acc_type a) (Len n)
+  pub map-done : k ≡ 75 → (a : Acc) → Ending k w n a → Stands w w 0 (acc_type a) (Some n)
   map-done z opening e = absurd (omega (arith, e.kind))
   map-done z (listed u) e = absurd (omega (arith, e.kind))
-  map-done z (mapped fs) e = as-answer (t_map fs) (Len n) e.at (rw e.small refl)
+  map-done z (mapped fs) e = as-answer (t_map fs) (Some n) e.at (rw e.small refl)
   map-done z (united ms) e = absurd (omega (arith, e.kind))
 
   module _ (x : k ≡ 74 → ⊥) (y : k ≡ 75 → ⊥) where
-    pub union-ready : SomeEnding k w n → Closing w n
-    union-ready p = go p.acc p.ending
-      where
-        go : (a : Acc) → Ending k w n a → Closing w n
-        go opening e = absurd (x e.kind)
-        go (listed u) e = absurd (x e.kind)
-        go (mapped fs) e = absurd (y e.kind)
-        go (united ms) e = record { members = ms; front = e.at; room = e.room }
-
-    pub union-done : (w' : Bytes) (r : Grown) → Closed w w' n r → (a : Acc) → Ending k w n a → Stands w w' 0 (acc_type a) r
+    pub union-done : (w' : Bytes) (r : Option ℕ) → Closed w w' n r → (a : Acc) → Ending k w n a → Stands w w' 0 (acc_type a) r
     union-done w' r h opening e = absurd (x e.kind)
     union-done w' r h (listed u) e = absurd (x e.kind)
     union-done w' r h (mapped fs) e = absurd (y e.kind)
@@ -306,7 +278,7 @@ module _ (k : ℕ) (w : Bytes) (n : ℕ) where
         let o = h ms e.at in
         let t = joined ms in
         record {
-          answer = o.answer ∙ grown-made (too_large t) (length (line t));
+          answer = o.answer;
           stands = λ _. subst (λ (i : ℕ). TypeAt w' 0 i t) (sym (zero-add (length (line t)))) o.text.front;
           below = refl;
           long = o.text.long;

@@ -1,5 +1,5 @@
--- What is made of an old type at the front of the work area: what the contracts of labels.rt and regular.rt cite.
-use Rattle.std.specs.Prelude.{ℕ, ◌+◌, ◌-◌, ◌≤◌, ◌<◌, ◌≡◌, List, [], ◌∷◌, ◌++◌, map, Bool, true, false, cond, eqb, length, take, drop, get_or}
+-- What is made of an old type at the front of the work area: what the contracts of labels.rt and making.rt cite.
+use Rattle.std.specs.Prelude.{ℕ, ◌+◌, ◌-◌, ◌≤◌, ◌<◌, ◌≡◌, List, [], ◌∷◌, ◌++◌, map, Bool, true, false, cond, eqb, length, take, drop, get_or, Option, Some, None}
 use Rattle.std.proofs.Math.Option.{some}
 use Rattle.semantics.specs.Codes.{comma as comma_byte, list_letter, map_letter, union_letter}
 use Rattle.semantics.specs.Limits.{nesting_limit, type_limit}
@@ -10,22 +10,17 @@ use Rattle.ty.specs.Parts.{lines_of, TypeAt}
 use Rattle.ty.specs.Union.{TypesAt, overlong}
 use Rattle.ty.specs.Entry.{Entering}
 use Rattle.ty.specs.Made.{Made as Stands, made as grown_by}
-use Rattle.ty.specs.declared.Grown.{Grown}
-use Rattle.ty.specs.declared.Grown.TheVariants.{Len, TooLarge}
 use Rattle.old_lines.specs.Old.{made}
+use Rattle.old.specs.declared.RegularType.{RegularType}
 use Rattle.old.specs.Read.{Within}
-use Rattle.old.specs.declared.labels.LabelSpot.{LabelSpot}
-use Rattle.old.specs.declared.labels.LabelSpot.TheVariants.{New, There}
-use Rattle.old.specs.declared.Answer.{Answer}
-use Rattle.old.specs.declared.Answer.TheVariants.{Done, Large}
 
 -- too large, or where the old type ends and how long the regular one is
-abbrev pub made_by : Bool → ℕ → ℕ → Answer
-made_by true end len = Large
-made_by false end len = Done end len
+abbrev pub made_by : Bool → ℕ → ℕ → Option RegularType
+made_by true end len = None
+made_by false end len = Some (record { end = end; len = len })
 
 -- the old type ends at `end`; the answer says whether u is too large; if not, u stands at the front now
-pub record MadeAs (w w' : Bytes) (end : ℕ) (u : Ty) (r : Answer) : Type 0 where
+pub record MadeAs (w w' : Bytes) (end : ℕ) (u : Ty) (r : Option RegularType) : Type 0 where
   pub answer : r ≡ made_by (too_large u) end (length (line u))
   pub stands : too_large u ≡ false → TypeAt w' 0 (length (line u)) u
   pub long : length w' ≡ length w
@@ -38,7 +33,7 @@ pub record OldAt (s : Bytes) (at l : ℕ) : Type 0 where
   pub within : Within l ty
 
 -- the regular type of whichever stands there
-abbrev pub MakesAt : Bytes → Bytes → Bytes → ℕ → ℕ → Answer → Type 0
+abbrev pub MakesAt : Bytes → Bytes → Bytes → ℕ → ℕ → Option RegularType → Type 0
 MakesAt s w w' at l r = (t : Ty) (rest : Bytes) → drop at s ≡ line_to t rest → Within l t → MadeAs w w' (at + length (line t)) (made t) r
 
 -- ## Types that are regular as they stand
@@ -49,7 +44,7 @@ pub record SamePlace (s : Bytes) (at : ℕ) : Type 0 where
   pub is : drop at s ≡ line_to ty rest
   pub small : length (line ty) ≤ type_limit
 
-abbrev pub Copies : Bytes → Bytes → Bytes → ℕ → Answer → Type 0
+abbrev pub Copies : Bytes → Bytes → Bytes → ℕ → Option RegularType → Type 0
 Copies s w w' at r = (t : Ty) (rest : Bytes) → drop at s ≡ line_to t rest → made t ≡ t → too_large t ≡ false → MadeAs w w' (at + length (line t)) (made t) r
 
 -- ## Labels
@@ -75,14 +70,14 @@ pub record SomeLabel (w : Bytes) (n : ℕ) (x : Bytes) : Type 0 where
   pub room : 3072 ≤ length w
 
 -- in the line l of the labels ls: the label m is new at p, or there already
-abbrev pub LabelGoes : Bytes → List Bytes → Bytes → LabelSpot → Type 0
-LabelGoes l ls m (New p) = (p ≤ length l) × (line (t_node (some (insert_name m ls))) ≡ take p l ++ name_to m (drop p l))
-LabelGoes l ls m There = insert_name m ls ≡ ls
+abbrev pub LabelGoes : Bytes → List Bytes → Bytes → Option ℕ → Type 0
+LabelGoes l ls m (Some p) = (p ≤ length l) × (line (t_node (some (insert_name m ls))) ≡ take p l ++ name_to m (drop p l))
+LabelGoes l ls m None = insert_name m ls ≡ ls
 
-abbrev pub LabelSpotted : Bytes → ℕ → Bytes → LabelSpot → Type 0
+abbrev pub LabelSpotted : Bytes → ℕ → Bytes → Option ℕ → Type 0
 LabelSpotted w n x r = (ls : List Bytes) (m : Bytes) → LabelsFront w n ls → x ≡ map hex m → LabelGoes (line (t_node (some ls))) ls m r
 
-abbrev pub LabelAdded : Bytes → Bytes → ℕ → Bytes → Grown → Type 0
+abbrev pub LabelAdded : Bytes → Bytes → ℕ → Bytes → Option ℕ → Type 0
 LabelAdded w w' n x r = (ls : List Bytes) (m : Bytes) → LabelsFront w n ls → x ≡ map hex m → Stands w w' 0 (t_node (some (insert_name m ls))) r
 
 pub record SomeNames (s : Bytes) (at : ℕ) : Type 0 where
@@ -91,7 +86,7 @@ pub record SomeNames (s : Bytes) (at : ℕ) : Type 0 where
   pub is : drop at s ≡ names_to labels rest
   pub good : Names labels
 
-abbrev pub LabelsMade : Bytes → Bytes → Bytes → ℕ → Answer → Type 0
+abbrev pub LabelsMade : Bytes → Bytes → Bytes → ℕ → Option RegularType → Type 0
 LabelsMade s w w' at r = (ls : List Bytes) (rest : Bytes) → drop at s ≡ names_to ls rest → Names ls → MadeAs w w' (at + length (names_to ls [])) (t_node (some (insert_names ls []))) r
 
 -- ## Between two inner types
@@ -167,12 +162,12 @@ pub record SomeJoin (s : Bytes) (k q : ℕ) (w : Bytes) (n end : ℕ) : Type 0 w
   pub ty : Ty
   pub join : Join s k q w n end acc name ty
 
-pub record JoinedAs (w w' : Bytes) (a : Acc) (r : Grown) : Type 0 where
+pub record JoinedAs (w w' : Bytes) (a : Acc) (r : Option ℕ) : Type 0 where
   pub answer : r ≡ grown_by (acc_large a) (acc_long a)
   pub stands : acc_large a ≡ false → AccAt a w' (acc_long a)
   pub long : length w' ≡ length w
 
-abbrev pub Joins : Bytes → ℕ → ℕ → Bytes → Bytes → ℕ → ℕ → Grown → Type 0
+abbrev pub Joins : Bytes → ℕ → ℕ → Bytes → Bytes → ℕ → ℕ → Option ℕ → Type 0
 Joins s k q w w' n end r = (a : Acc) (m : Bytes) (u : Ty) → Join s k q w n end a m u → JoinedAs w w' (joined_by a m u) r
 
 -- ## An entry more in a map that is not nested too deep
@@ -199,9 +194,5 @@ pub record SomeEnding (k : ℕ) (w : Bytes) (n : ℕ) : Type 0 where
   pub acc : Acc
   pub ending : Ending k w n acc
 
-abbrev pub Ends : ℕ → Bytes → Bytes → ℕ → Grown → Type 0
+abbrev pub Ends : ℕ → Bytes → Bytes → ℕ → Option ℕ → Type 0
 Ends k w w' n r = (a : Acc) → Ending k w n a → Stands w w' 0 (acc_type a) r
-
-abbrev pub ended_by : Grown → ℕ → Answer
-ended_by (Len n) end = Done end n
-ended_by TooLarge end = Large

@@ -6,11 +6,11 @@ mod labels;
 mod making;
 mod reader;
 
-pub use call::{Outcome, regular_line};
+pub use call::regular_line;
 
-// Where the old type ends and how long the regular one is, or that it is too large.
-#[derive(Drop)]
-pub enum Answer {
-    Done { end: usize, len: usize },
-    Large,
+// Where an old type ends, and how long the regular one is.
+#[derive(Clone, Copy)]
+pub struct RegularType {
+    pub end: usize,
+    pub len: usize,
 }

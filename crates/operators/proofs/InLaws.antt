@@ -1,7 +1,6 @@
 -- IN: what may stand for a list, an operand and an element that meet, and the faults. Assumes nothing.
 use Prim.Native.Nat.{ℕ, ◌+◌, ◌-◌, ◌<◌}
 use native.Mathlib.Omega.{arith}
-use borrow.Author.Tests.{ne_eqb}
 use mathlib.Core.Path.{◌≡◌, refl, sym, ap, ◌∙◌, subst}
 use mathlib.Core.List.{List, [], ◌∷◌}
 use mathlib.Core.Bool.{Bool, true, false, ◌||◌}
@@ -19,17 +18,18 @@ use Rattle.ty.proofs.Lines.{letter-away, special}
 use Rattle.unify_run.proofs.Size.{line-two}
 use Rattle.builtins.proofs.Laws.{HandsBack}
 use Rattle.unify_run.specs.Run.{Run, done, mismatch, large, unless, answered, verdict}
-use Rattle.unify.specs.Work.{Operand, Ready, Answered, Unifies}
-use Rattle.unify.specs.declared.Unified.{Unified}
+use Rattle.unify.specs.Work.{Unified, span, Operand, Ready, Answered, Unifies}
 use Rattle.unify.specs.declared.Span.{Span}
-use Rattle.unify.specs.declared.Unified.TheVariants.{Done, Mismatch, TooLarge}
+use Rattle.unify.specs.declared.UnifyError.TheVariants.{Mismatch, TooLarge}
+use Rattle.std.specs.Prelude.{Ok, Err}
 use Rattle.walk_run.specs.Run.{told, or_much, end_in}
 use Rattle.exprs.specs.declared.state.Accumulator.{Accumulator}
+use Rattle.report.specs.declared.TypeFault.TheVariants.{E2013}
 use Rattle.report.specs.Report.{Adds, code_fault}
 use Rattle.report.specs.declared.Tally.{Tally}
 use Rattle.report.proofs.ReportLaws.{adds_none}
-use Rattle.exprs.specs.declared.state.Ended.{Ended}
-use Rattle.exprs.specs.declared.state.Ended.TheVariants.{Large}
+use Rattle.exprs.specs.declared.state.Typed.{Typed}
+use Rattle.std.specs.declared.option.Option.TheVariants.{Some, None}
 use Rattle.exprs.specs.End.{Ends, Settles, TwoAt, SomeTwo}
 use Rattle.operators.specs.Helpers.{SomeKinds, apart_faults, LetsIn}
 use Rattle.exprs.proofs.States.{second_at}
@@ -40,7 +40,7 @@ use Rattle.operators.proofs.Meets.{left-operand, left-kind, right-kind, done-run
 abbrev free : List Base
 free = t_any ∷ t_unknown ∷ t_null ∷ []
 
-abbrev free_kind : ℕ → Bool
+abbrev pub free_kind : ℕ → Bool
 free_kind k = eqb k 65 || (eqb k 80 || (eqb k 66 || false))
 
 free-kind : (u : Ty) → matches u free ≡ free_kind (kind_of u)
@@ -52,21 +52,8 @@ free-kind (t_node ls) = refl
 free-kind (t_relationship n) = refl
 free-kind (t_union ts) = refl
 
-module _ (k : ℕ) where
-  lets : (r : Bool) → free_kind k ≡ r → LetsIn k r
-  lets r h u e = sym (free-kind u ∙ ap free_kind e ∙ h)
-
-  pub lets-any : k ≡ 65 → LetsIn k true
-  lets-any q = lets true (ap free_kind q)
-
-  pub lets-null : k ≡ 66 → LetsIn k true
-  lets-null q = lets true (ap free_kind q)
-
-  pub lets-unknown : k ≡ 80 → LetsIn k true
-  lets-unknown q = lets true (ap free_kind q)
-
-  pub lets-none : (k ≡ 65 → ⊥) → (k ≡ 66 → ⊥) → (k ≡ 80 → ⊥) → LetsIn k false
-  lets-none a b c = lets false (rw (ne_eqb k 65 a, ne_eqb k 80 c, ne_eqb k 66 b))
+pub lets : (k : ℕ) (r : Bool) → free_kind k ≡ r → LetsIn k r
+lets k r h u e = sym (free-kind u ∙ ap free_kind e ∙ h)
 
 in-plain : (a b : Ty) → (kind_of b ≡ 74 → ⊥) → end_in a b ≡ told (base t_bool) (elim (matches b free) [ true ↦ [] | false ↦ fault_2013 b ∷ [] ])
 unfolding end_in in_faults matches kind_of
@@ -83,12 +70,11 @@ module _ {a b : Ty} {s : Bytes} {st : Accumulator} (h : TwoAt a b s st) (d : get
       in-plain a b (λ e. d (sym (right-kind h) ∙ e))
       ∙ ap (λ (x : Bool). told (base t_bool) (elim x [ true ↦ [] | false ↦ fault_2013 b ∷ [] ])) (sym (l b (right-kind h)) ∙ q)
 
-  pub in-free : {s' out : Bytes} {r : Ended} {n : Tally} → f ≡ true → Settles (base t_bool) s s' n r → Ends (end_in a b) s s' out out n r
+  pub in-free : {s' out : Bytes} {r : Typed} {n : Tally} → f ≡ true → Settles (base t_bool) s s' n r → Ends (end_in a b) s s' out out n (Some r)
   in-free q g = ends-settled g (plain-faults true q) refl adds_none
 
-  pub in-fault : {s' out out' : Bytes} {r : Ended} {n m : Tally} → f ≡ false → ((u : Ty) → kind_of u ≡ get_or s st.len 0 → Adds (code_fault 2013 u ∷ []) out out' n m)
-      → Settles (base t_bool) s s' m r → Ends (end_in a b) s s' out out' n r
-  unfolding code_fault
+  pub in-fault : {s' out out' : Bytes} {r : Typed} {n m : Tally} → f ≡ false → ((u : Ty) → kind_of u ≡ get_or s st.len 0 → Adds (code_fault E2013 u ∷ []) out out' n m)
+      → Settles (base t_bool) s s' m r → Ends (end_in a b) s s' out out' n (Some r)
   in-fault q k g = ends-settled g (plain-faults false q) refl (k b (right-kind h))
 
 -- ## A list
@@ -106,8 +92,8 @@ kind-list (t_union ts) h = absurd (omega arith)
 pub record Element (a b : Ty) (s : Bytes) (st : Accumulator) : Type 0 where
   pub ty : Ty
   pub is : b ≡ t_list ty
-  pub operand : Operand s (st.len + 2) (st.len + st.second) (st.len + st.second) ty
-  pub ready : Ready s 0 st.len (st.len + 2) (st.len + st.second) (st.len + st.second)
+  pub operand : Operand s (span (st.len + 2) (st.len + st.second)) (st.len + st.second) ty
+  pub ready : Ready s (span 0 st.len) (span (st.len + 2) (st.len + st.second)) (st.len + st.second)
 
 module _ {a b : Ty} {s : Bytes} {st : Accumulator} (h : TwoAt a b s st) (q : get_or s st.len 0 ≡ 74) where
   pub element-of : Element a b s st
@@ -119,7 +105,7 @@ module _ {a b : Ty} {s : Bytes} {st : Accumulator} (h : TwoAt a b s st) (q : get
       of u g e =
           let at = list-inner (second_at g.at) in
           let f = fine-element g.at.fine.1 in
-          let o : Operand s (st.len + 2) (st.len + st.second) (st.len + st.second) u = record { at = at; below = omega arith; regular = f.regular; small = f.small } in
+          let o : Operand s (span (st.len + 2) (st.len + st.second)) (st.len + st.second) u = record { at = at; below = omega arith; regular = f.regular; small = f.small } in
           record {
             ty = u;
             is = e;
@@ -127,7 +113,7 @@ module _ {a b : Ty} {s : Bytes} {st : Accumulator} (h : TwoAt a b s st) (q : get
             ready = record { left = a; right = u; first = left-operand g; second = o; room = omega (arith, g.room, slots-element a u) };
           }
 
-pub list-ready : {s : Bytes} {st : Accumulator} → SomeTwo s st → get_or s st.len 0 ≡ 74 → Ready s 0 st.len (st.len + 2) (st.len + st.second) (st.len + st.second)
+pub list-ready : {s : Bytes} {st : Accumulator} → SomeTwo s st → get_or s st.len 0 ≡ 74 → Ready s (span 0 st.len) (span (st.len + 2) (st.len + st.second)) (st.len + st.second)
 list-ready p q = (element-of p.at q).ready
 
 -- the list's line is a part of the work area, of which `ty::element` hands back the element's
@@ -182,26 +168,26 @@ in-apart : (a u x y : Ty) → verdict (unify a u) ≡ mismatch x y → in_faults
 unfolding in_faults
 in-apart a u x y e = ap (apart a u) (verdict-apart (unify a u) x y e)
 
-module _ {a b : Ty} {s s₁ : Bytes} {st : Accumulator} {o : Unified} (w : Unifies s s₁ 0 st.len (st.len + 2) (st.len + st.second) (st.len + st.second) o)
+module _ {a b : Ty} {s s₁ : Bytes} {st : Accumulator} {o : Unified} (w : Unifies s s₁ (span 0 st.len) (span (st.len + 2) (st.len + st.second)) (st.len + st.second) o)
     (h : TwoAt a b s st) (q : get_or s st.len 0 ≡ 74) where
   element-run : Answered (verdict (unify a (element-of h q).ty)) s₁ (st.len + st.second) o
   element-run = w.answer a (element-of h q).ty (left-operand h) (element-of h q).operand
 
-  pub list_done : {s' out : Bytes} {m : Tally} {r : Ended} {e : ℕ} → o ≡ Done e → Settles (base t_bool) s₁ s' m r → Ends (end_in a b) s s' out out m r
+  pub list_done : {s' out : Bytes} {m : Tally} {r : Typed} {e : ℕ} → o ≡ Ok e → Settles (base t_bool) s₁ s' m r → Ends (end_in a b) s s' out out m (Some r)
   list_done k g =
       let u = (element-of h q).ty in
       let (t, p, f) = done-run s₁ (st.len + st.second) (verdict (unify a u)) element-run k in
       ends-settled g (ap (end_in a) (element-of h q).is ∙ in-run a u (done t) p) w.below.long adds_none
 
-  pub list-apart : {s' out out' el : Bytes} {n m : Tally} {r : Ended} {i j : Span} → HandsBack (list_part s st) el → o ≡ Mismatch i j
+  pub list-apart : {s' out out' el : Bytes} {n m : Tally} {r : Typed} {i j : Span} → HandsBack (list_part s st) el → o ≡ Err (Mismatch i j)
       → ((u v : Ty) → kind_of u ≡ get_or s 0 0 → kind_of v ≡ get_or el 0 0 → Adds (apart_faults u v) out out' n m)
-      → Settles (base t_bool) s₁ s' m r → Ends (end_in a b) s s' out out' n r
+      → Settles (base t_bool) s₁ s' m r → Ends (end_in a b) s s' out out' n (Some r)
   list-apart z k d g =
       let u = (element-of h q).ty in
       let (x, y, p) = apart-run s₁ (st.len + st.second) (verdict (unify a u)) element-run k in
       ends-settled g (ap (end_in a) (element-of h q).is ∙ in-run a u (mismatch x y) p ∙ ap (told (base t_bool)) (in-apart a u x y p)) w.below.long (d a u (left-kind h) (element-kind h q z))
 
-  pub list-large : {out : Bytes} {m : Tally} → o ≡ TooLarge → Ends (end_in a b) s s₁ out out m Large
+  pub list-large : {out : Bytes} {m : Tally} → o ≡ Err TooLarge → Ends (end_in a b) s s₁ out out m None
   list-large {m = m} k =
       let u = (element-of h q).ty in
       let p = large-run s₁ (st.len + st.second) (verdict (unify a u)) element-run k in

@@ -16,18 +16,18 @@ use Rattle.ty.specs.Read.{kind_of}
 use Rattle.ty.proofs.KindLaws.{kind_at, two_at}
 use Rattle.unify_run.specs.Run.{Run, done, mismatch, large, verdict}
 use Rattle.unify_run.proofs.Size.{small-sound, small-true, element-inside}
-use Rattle.unify.specs.Work.{Operand, Ready, Answered, Unifies, slots}
-use Rattle.unify.specs.declared.Unified.{Unified}
+use Rattle.unify.specs.Work.{Unified, span, Operand, Ready, Answered, Unifies, slots}
 use Rattle.unify.specs.declared.Span.{Span}
-use Rattle.unify.specs.declared.Unified.TheVariants.{Done, Mismatch, TooLarge}
+use Rattle.unify.specs.declared.UnifyError.TheVariants.{Mismatch, TooLarge}
+use Rattle.std.specs.Prelude.{Ok, Err}
 use Rattle.walk_run.specs.Run.{Told, told, too_much, or_much, end_op}
 use Rattle.exprs.specs.State.{Fine}
 use Rattle.exprs.specs.declared.state.Accumulator.{Accumulator}
 use Rattle.report.specs.Report.{faults_text, Adds}
 use Rattle.report.specs.declared.Tally.{Tally}
 use Rattle.report.proofs.ReportLaws.{adds_none}
-use Rattle.exprs.specs.declared.state.Ended.{Ended}
-use Rattle.exprs.specs.declared.state.Ended.TheVariants.{Large}
+use Rattle.exprs.specs.declared.state.Typed.{Typed}
+use Rattle.std.specs.declared.option.Option.TheVariants.{Some, None}
 use Rattle.exprs.specs.End.{Ends, Settles, TwoAt, SomeTwo}
 use Rattle.operators.specs.Helpers.{SomeKinds}
 use Rattle.exprs.proofs.States.{first_at, second_at}
@@ -35,12 +35,12 @@ use Rattle.exprs.proofs.States.{first_at, second_at}
 -- ## The operands of two types that are kept
 
 module _ {a b : Ty} {s : Bytes} {st : Accumulator} (h : TwoAt a b s st) where
-  pub left-operand : Operand s 0 st.len (st.len + st.second) a
+  pub left-operand : Operand s (span 0 st.len) (st.len + st.second) a
   left-operand =
       let f = h.at.fine.0 in
       record { at = first_at h.at; below = omega arith; regular = f.regular; small = f.small }
 
-  pub right_operand : Operand s st.len (st.len + st.second) (st.len + st.second) b
+  pub right_operand : Operand s (span st.len (st.len + st.second)) (st.len + st.second) b
   right_operand =
       let f = h.at.fine.1 in
       record { at = second_at h.at; below = omega arith; regular = f.regular; small = f.small }
@@ -51,7 +51,7 @@ module _ {a b : Ty} {s : Bytes} {st : Accumulator} (h : TwoAt a b s st) where
   pub right-kind : kind_of b ≡ get_or s st.len 0
   right-kind = sym (kind_at s st.len (st.len + st.second) b (second_at h.at))
 
-pub two_ready : {s : Bytes} {st : Accumulator} → SomeTwo s st → Ready s 0 st.len st.len (st.len + st.second) (st.len + st.second)
+pub two_ready : {s : Bytes} {st : Accumulator} → SomeTwo s st → Ready s (span 0 st.len) (span st.len (st.len + st.second)) (st.len + st.second)
 two_ready p = record { left = p.left; right = p.right; first = left-operand p.at; second = right_operand p.at; room = p.at.room }
 
 pub two-kinds : {s : Bytes} {st : Accumulator} → SomeTwo s st → SomeKinds (get_or s 0 0) (get_or s st.len 0)
@@ -66,34 +66,34 @@ two-inside {s} {st} p =
 -- ## What the answer says of the run
 
 module _ (s : Bytes) (m : ℕ) where
-  of-done : {e : ℕ} (R : Run) → Answered R s m (Done e) → (t : Ty) × (R ≡ done t) × TypeAt s m e t
+  of-done : {e : ℕ} (R : Run) → Answered R s m (Ok e) → (t : Ty) × (R ≡ done t) × TypeAt s m e t
   of-done (done t) h = (t, refl, h)
   of-done (mismatch x y) h = absurd h
   of-done large h = absurd h
 
-  of-apart : (i j : Span) (R : Run) → Answered R s m (Mismatch i j) → (x : Ty) × (y : Ty) × (R ≡ mismatch x y)
+  of-apart : (i j : Span) (R : Run) → Answered R s m (Err (Mismatch i j)) → (x : Ty) × (y : Ty) × (R ≡ mismatch x y)
   of-apart i j (done t) h = absurd h
   of-apart i j (mismatch x y) h = (x, y, refl)
   of-apart i j large h = absurd h
 
-  of-large : (R : Run) → Answered R s m TooLarge → R ≡ large
+  of-large : (R : Run) → Answered R s m (Err TooLarge) → R ≡ large
   of-large (done t) h = absurd h
   of-large (mismatch x y) h = absurd h
   of-large large h = refl
 
   module _ {u : Unified} (R : Run) (h : Answered R s m u) where
-    pub done-run : {e : ℕ} → u ≡ Done e → (t : Ty) × (R ≡ done t) × TypeAt s m e t
+    pub done-run : {e : ℕ} → u ≡ Ok e → (t : Ty) × (R ≡ done t) × TypeAt s m e t
     done-run q = of-done R (subst (λ (x : Unified). Answered R s m x) q h)
 
-    pub apart-run : {i j : Span} → u ≡ Mismatch i j → (x : Ty) × (y : Ty) × (R ≡ mismatch x y)
+    pub apart-run : {i j : Span} → u ≡ Err (Mismatch i j) → (x : Ty) × (y : Ty) × (R ≡ mismatch x y)
     apart-run {i} {j} q = of-apart i j R (subst (λ (x : Unified). Answered R s m x) q h)
 
-    pub large-run : u ≡ TooLarge → R ≡ large
+    pub large-run : u ≡ Err TooLarge → R ≡ large
     large-run q = of-large R (subst (λ (x : Unified). Answered R s m x) q h)
 
 -- where the answer of some operands ends
-pub done-inside : {s s' : Bytes} {a ae b be m e : ℕ} {r : Unified} → Ready s a ae b be m → Unifies s s' a ae b be m r → r ≡ Done e → (m ≤ e) × (e ≤ length s')
-done-inside {s} {s'} {a} {ae} {b} {be} {m} {e} {r} p u q =
+pub done-inside : {s s' : Bytes} {a b : Span} {m e : ℕ} {r : Unified} → Ready s a b m → Unifies s s' a b m r → r ≡ Ok e → (m ≤ e) × (e ≤ length s')
+done-inside {s} {s'} {a} {b} {m} {e} {r} p u q =
     let (t, w, f) = done-run s' m (verdict (unify p.left p.right)) (u.answer p.left p.right p.first p.second) q in
     (f.ordered, f.inside)
 
@@ -103,11 +103,11 @@ adds-long : {fs : List Fault} {out out' : Bytes} {n m : Tally} → Adds fs out o
 adds-long {fs} {out} {n = n} a = ap length a.text ∙ length-sets out n.fill (faults_text fs)
 
 -- too large
-pub ends-large : {x : Told} {fs : List Fault} {s s' out out' : Bytes} {n m : Tally} → x ≡ too_much → length s' ≡ length s → Adds fs out out' n m → Ends x s s' out out' n Large
+pub ends-large : {x : Told} {fs : List Fault} {s s' out out' : Bytes} {n m : Tally} → x ≡ too_much → length s' ≡ length s → Adds fs out out' n m → Ends x s s' out out' n None
 ends-large e l a = rw e (record { answer = tt; long = l; as_long = adds-long a })
 
 -- what a helper settled over a text that is as long
-pub ends-settled : {t : Ty} {fs : List Fault} {x : Told} {s s₁ s' out out' : Bytes} {n m : Tally} {r : Ended} → Settles t s₁ s' m r → x ≡ told t fs → length s₁ ≡ length s → Adds fs out out' n m → Ends x s s' out out' n r
+pub ends-settled : {t : Ty} {fs : List Fault} {x : Told} {s s₁ s' out out' : Bytes} {n m : Tally} {r : Typed} → Settles t s₁ s' m r → x ≡ told t fs → length s₁ ≡ length s → Adds fs out out' n m → Ends x s s' out out' n (Some r)
 ends-settled {t} {fs} {x} {s} {s₁} {s'} {out} {out'} {n} {m} {r} h e l a =
     let w = h fs out out' n a in
     rw e (record { answer = w.answer; long = w.long ∙ l; as_long = w.as_long })
@@ -118,21 +118,21 @@ compared : (a b : Ty) (R : Run) → verdict (unify a b) ≡ R → end_op compari
 unfolding end_op
 compared a b R e = ap (λ (x : Run). or_much x (λ t. told (base t_bool) []) (told (base t_bool) [])) e
 
-module _ {s s₁ : Bytes} {st : Accumulator} {u : Unified} (w : Unifies s s₁ 0 st.len st.len (st.len + st.second) (st.len + st.second) u) {a b : Ty} (h : TwoAt a b s st) where
+module _ {s s₁ : Bytes} {st : Accumulator} {u : Unified} (w : Unifies s s₁ (span 0 st.len) (span st.len (st.len + st.second)) (st.len + st.second) u) {a b : Ty} (h : TwoAt a b s st) where
   told-run : Answered (verdict (unify a b)) s₁ (st.len + st.second) u
   told-run = w.answer a b (left-operand h) (right_operand h)
 
-  pub compared-done : {s' out : Bytes} {m : Tally} {r : Ended} {e : ℕ} → u ≡ Done e → Settles (base t_bool) s₁ s' m r → Ends (end_op comparison a b) s s' out out m r
+  pub compared-done : {s' out : Bytes} {m : Tally} {r : Typed} {e : ℕ} → u ≡ Ok e → Settles (base t_bool) s₁ s' m r → Ends (end_op comparison a b) s s' out out m (Some r)
   compared-done q g =
       let (t, p, f) = done-run s₁ (st.len + st.second) (verdict (unify a b)) told-run q in
       ends-settled g (compared a b (done t) p) w.below.long adds_none
 
-  pub compared-apart : {s' out : Bytes} {m : Tally} {r : Ended} {i j : Span} → u ≡ Mismatch i j → Settles (base t_bool) s₁ s' m r → Ends (end_op comparison a b) s s' out out m r
+  pub compared-apart : {s' out : Bytes} {m : Tally} {r : Typed} {i j : Span} → u ≡ Err (Mismatch i j) → Settles (base t_bool) s₁ s' m r → Ends (end_op comparison a b) s s' out out m (Some r)
   compared-apart q g =
       let (x, y, p) = apart-run s₁ (st.len + st.second) (verdict (unify a b)) told-run q in
       ends-settled g (compared a b (mismatch x y) p) w.below.long adds_none
 
-  pub compared-large : {out : Bytes} {m : Tally} → u ≡ TooLarge → Ends (end_op comparison a b) s s₁ out out m Large
+  pub compared-large : {out : Bytes} {m : Tally} → u ≡ Err TooLarge → Ends (end_op comparison a b) s s₁ out out m None
   compared-large {out} {m} q =
       let p = large-run s₁ (st.len + st.second) (verdict (unify a b)) told-run q in
       ends-large (compared a b large p) w.below.long (adds_none {t = m})

@@ -1,12 +1,12 @@
 -- Operators: their numbers, what two operands are asked, the type that arithmetic comes to. Assumes nothing.
-use Prim.Native.Nat.{ℕ, ◌+◌, ◌-◌, ◌≤◌, ◌<◌, ◌^◌}
+use Prim.Native.Nat.{ℕ, ◌+◌, ◌-◌, ◌≤◌, ◌<◌}
 use native.Mathlib.Omega.{arith}
 use borrow.Author.Tests.{lt-ltb, le-ltb, ne_eqb}
 use mathlib.Core.Path.{◌≡◌, refl, sym, ap, ◌∙◌}
 use mathlib.Core.List.{[], ◌∷◌, ◌++◌}
 use mathlib.Core.Bool.{Bool, true, false}
 use lib.Dec.{ltb}
-use lib.ListN.{length, take, get_or, get_or-eq_default}
+use lib.ListN.{length, take, get_or}
 use lib.Seq.{slice, sets, length-sets, length-slice}
 use Rattle.semantics.specs.Bytes.{Bytes}
 use Rattle.semantics.specs.Ty.{Base, t_bool, t_unknown, Ty, base, t_list, t_map, t_node, t_relationship, t_union, letter, line_to, line, matches, regular, nesting, too_large, is_union}
@@ -20,24 +20,25 @@ use Rattle.ty.proofs.KindLaws.{kind_at}
 use Rattle.builtins.specs.Rows.{Returned}
 use Rattle.builtins.proofs.Laws.{front-line}
 use Rattle.unify_run.specs.Run.{Run, verdict}
-use Rattle.unify.specs.Work.{Operand, Ready, Answered, Unifies, slots}
-use Rattle.unify.specs.declared.Unified.{Unified}
+use Rattle.unify.specs.Work.{Unified, span, Operand, Ready, Answered, Unifies, slots}
 use Rattle.unify.specs.declared.Span.{Span}
-use Rattle.unify.specs.declared.Unified.TheVariants.{Done, Mismatch, TooLarge}
+use Rattle.unify.specs.declared.UnifyError.TheVariants.{Mismatch, TooLarge}
+use Rattle.std.specs.Prelude.{Ok, Err}
 use Rattle.walk_run.specs.Run.{kept, told, or_much, end_op}
 use Rattle.exprs.specs.declared.state.Accumulator.{Accumulator}
-use Rattle.report.specs.Report.{faults_text, Adds}
+use Rattle.report.specs.Report.{faults_text, Adds, HasRoom}
 use Rattle.report.specs.declared.Tally.{Tally}
 use Rattle.report.proofs.ReportLaws.{adds_none, adds_then, fault-short}
-use Rattle.exprs.specs.declared.state.Ended.{Ended}
-use Rattle.exprs.specs.declared.state.Ended.TheVariants.{Typed, Large}
+use Rattle.exprs.specs.declared.state.Typed.{Typed}
+use Rattle.std.specs.declared.option.Option.{Option}
+use Rattle.std.specs.declared.option.Option.TheVariants.{Some, None}
 use Rattle.exprs.specs.End.{Puts, Ends, Settles, Countable, KeptAt, TwoAt}
-use Rattle.operators.specs.Helpers.{NumericKind, SomeKinds, op_number, TwoAsked, Computed}
+use Rattle.operators.specs.Helpers.{NumericKind, SomeKinds, TwoAsked, Computed}
 use Rattle.exprs.proofs.Fronts.{put-base, put-any, settle}
 use Rattle.exprs.proofs.States.{kept_at}
 use Rattle.operators.proofs.Meets.{left-kind, right-kind, done-run, apart-run, large-run, ends-large, ends-settled}
 
--- ## The operators' numbers
+-- ## The operators' kinds
 
 -- `op` by the tests that it makes
 abbrev op_by : Bool → Bool → Bool → Bool → Bool → Op
@@ -49,44 +50,23 @@ module _ (k : ℕ) where
   unfolding op
   by_tests a b c d e p q r s t = rw (← p, ← q, ← r, ← s, ← t)
 
-  pub number-0 : k < 6 → 0 ≡ op_number (op k)
-  unfolding op_number
-  number-0 h = rw (by_tests true (ltb k 8) (ltb k 12) (ltb k 15) (ltb k 19) (lt-ltb k 6 h) refl refl refl refl)
+  pub op-arithmetic : k < 6 → arithmetic ≡ op k
+  op-arithmetic h = sym (by_tests true (ltb k 8) (ltb k 12) (ltb k 15) (ltb k 19) (lt-ltb k 6 h) refl refl refl refl)
 
-  pub number-1 : 6 ≤ k → k < 8 → 1 ≡ op_number (op k)
-  unfolding op_number
-  number-1 g h = rw (by_tests false true (ltb k 12) (ltb k 15) (ltb k 19) (le-ltb k 6 g) (lt-ltb k 8 h) refl refl refl)
+  pub op-equality : 6 ≤ k → k < 8 → equality ≡ op k
+  op-equality g h = sym (by_tests false true (ltb k 12) (ltb k 15) (ltb k 19) (le-ltb k 6 g) (lt-ltb k 8 h) refl refl refl)
 
-  pub number-2 : 8 ≤ k → k < 12 → 2 ≡ op_number (op k)
-  unfolding op_number
-  number-2 g h = rw (by_tests false false true (ltb k 15) (ltb k 19) (le-ltb k 6 (omega arith)) (le-ltb k 8 g) (lt-ltb k 12 h) refl refl)
+  pub op-comparison : 8 ≤ k → k < 12 → comparison ≡ op k
+  op-comparison g h = sym (by_tests false false true (ltb k 15) (ltb k 19) (le-ltb k 6 (omega arith)) (le-ltb k 8 g) (lt-ltb k 12 h) refl refl)
 
-  pub number-3 : 12 ≤ k → k < 15 → 3 ≡ op_number (op k)
-  unfolding op_number
-  number-3 g h = rw (by_tests false false false true (ltb k 19) (le-ltb k 6 (omega arith)) (le-ltb k 8 (omega arith)) (le-ltb k 12 g) (lt-ltb k 15 h) refl)
+  pub op-boolean : 12 ≤ k → k < 15 → boolean ≡ op k
+  op-boolean g h = sym (by_tests false false false true (ltb k 19) (le-ltb k 6 (omega arith)) (le-ltb k 8 (omega arith)) (le-ltb k 12 g) (lt-ltb k 15 h) refl)
 
-  pub number-4 : 15 ≤ k → k < 19 → 4 ≡ op_number (op k)
-  unfolding op_number
-  number-4 g h = rw (by_tests false false false false true (le-ltb k 6 (omega arith)) (le-ltb k 8 (omega arith)) (le-ltb k 12 (omega arith)) (le-ltb k 15 g) (lt-ltb k 19 h))
+  pub op-string : 15 ≤ k → k < 19 → string ≡ op k
+  op-string g h = sym (by_tests false false false false true (le-ltb k 6 (omega arith)) (le-ltb k 8 (omega arith)) (le-ltb k 12 (omega arith)) (le-ltb k 15 g) (lt-ltb k 19 h))
 
-  pub number-5 : 19 ≤ k → 5 ≡ op_number (op k)
-  unfolding op_number
-  number-5 g = rw (by_tests false false false false false (le-ltb k 6 (omega arith)) (le-ltb k 8 (omega arith)) (le-ltb k 12 (omega arith)) (le-ltb k 15 (omega arith)) (le-ltb k 19 g))
-
--- and back
-abbrev pub op_at : ℕ → Op
-op_at n = get_or (arithmetic ∷ equality ∷ comparison ∷ boolean ∷ string ∷ []) n concat
-
-op-at : (o : Op) → op_at (op_number o) ≡ o
-unfolding op_number
-op-at o = elim o as (λ k. op_at (op_number k) ≡ k) [ arithmetic ↦ refl | comparison ↦ refl | equality ↦ refl | boolean ↦ refl | string ↦ refl | concat ↦ refl ]
-
-module _ {k : ℕ} (o : Op) (e : k ≡ op_number o) where
-  pub op-key : (n : ℕ) → k ≡ n → o ≡ op_at n
-  op-key n q = sym (op-at o) ∙ ap op_at (sym e ∙ q)
-
-  pub op-concat : (k ≡ 0 → ⊥) → (k ≡ 1 → ⊥) → (k ≡ 2 → ⊥) → (k ≡ 3 → ⊥) → (k ≡ 4 → ⊥) → o ≡ concat
-  op-concat n0 n1 n2 n3 n4 = op-key k refl ∙ get_or-eq_default (arithmetic ∷ equality ∷ comparison ∷ boolean ∷ string ∷ []) concat {n = k} (omega arith)
+  pub op-concat : 19 ≤ k → concat ≡ op k
+  op-concat g = sym (by_tests false false false false false (le-ltb k 6 (omega arith)) (le-ltb k 8 (omega arith)) (le-ltb k 12 (omega arith)) (le-ltb k 15 (omega arith)) (le-ltb k 19 g))
 
 -- ## What two operands are asked
 
@@ -100,11 +80,11 @@ require-short k u = go (meets k u)
 
 -- room for the second
 pub asked-room : (k : Need) {a b : ℕ} {out out' : Bytes} {t t' : Tally} → SomeKinds a b → Countable t → ((u : Ty) → kind_of u ≡ a → Adds (require k u) out out' t t')
-    → (t'.fill + 128 < 2 ^ 64) × (t'.faults + 1 < 2 ^ 64) × SomeKind b
+    → HasRoom t' × SomeKind b
 asked-room k s n h =
     let x = h s.first.ty s.first.is in
     let y = require-short k s.first.ty in
-    (omega (arith, x.end, n.fill), omega (arith, x.count, n.faults), s.second)
+    (record { fill = omega (arith, x.end, n.fill); faults = omega (arith, x.count, n.faults) }, s.second)
 
 pub asked-two : (k : Need) {a b : ℕ} {out out' out'' : Bytes} {t t' t'' : Tally} → ((u : Ty) → kind_of u ≡ a → Adds (require k u) out out' t t')
     → ((u : Ty) → kind_of u ≡ b → Adds (require k u) out' out'' t' t'') → TwoAsked k a b out out'' t t''
@@ -141,12 +121,12 @@ one-kind {s} {st} {t} h = sym (kind_at s 0 st.len t (kept_at h))
 
 module _ {s s' out out' : Bytes} {n m : Tally} {st : Accumulator} (k : ℕ) {t : Ty} (h : KeptAt (kept t) s st) where
   pub unary-minus : {x len : ℕ} → k ≡ 0 → NumericKind (get_or s 0 0) x → Puts (x ∷ 44 ∷ []) s s' len → ((u : Ty) → kind_of u ≡ get_or s 0 0 → Adds (require a_number u) out out' n m)
-      → Ends (told (unary_type k t) (unary_faults k t)) s s' out out' n (Typed len m)
+      → Ends (told (unary_type k t) (unary_faults k t)) s s' out out' n (Some (record { len = len; tally = m }))
   unfolding unary_type unary_faults
   unary-minus e q p a = rw e (settle (put-numeric t (q.is t (one-kind h)) (omega (arith, h.wide)) p) (require a_number t) out out' n (a t (one-kind h)))
 
-  pub unary-not : {r : Ended} → (k ≡ 0 → ⊥) → Settles (base t_bool) s s' m r → ((u : Ty) → kind_of u ≡ get_or s 0 0 → Adds (require a_bool u) out out' n m)
-      → Ends (told (unary_type k t) (unary_faults k t)) s s' out out' n r
+  pub unary-not : {r : Typed} → (k ≡ 0 → ⊥) → Settles (base t_bool) s s' m r → ((u : Ty) → kind_of u ≡ get_or s 0 0 → Adds (require a_bool u) out out' n m)
+      → Ends (told (unary_type k t) (unary_faults k t)) s s' out out' n (Some r)
   unfolding unary_type unary_faults
   unary-not {r} e g a = rw (ne_eqb k 0 e, unary_type, unary_faults) (g (require a_bool t) out out' n (a t (one-kind h)))
 
@@ -154,7 +134,7 @@ module _ {s s' out out' : Bytes} {n m : Tally} {st : Accumulator} (k : ℕ) {t :
 
 -- a type of one letter is an operand
 module _ {s : Bytes} {a e mark : ℕ} (b : Base) where
-  base-operand : a ≤ e → e ≤ mark → e ≤ length s → slice a e s ≡ letter b ∷ 44 ∷ [] → Operand s a e mark (base b)
+  base-operand : a ≤ e → e ≤ mark → e ≤ length s → slice a e s ≡ letter b ∷ 44 ∷ [] → Operand s (span a e) mark (base b)
   unfolding line line_to regular too_large nesting
   base-operand o l i w = record { at = record { ordered = o; inside = i; is = w }; below = l; regular = refl; small = refl }
 
@@ -165,20 +145,20 @@ module _ {s s₁ : Bytes} {x y r : ℕ} (h : 8192 ≤ length s) (p : Puts (x ∷
   pair-front : take 4 s₁ ≡ x ∷ 44 ∷ y ∷ 44 ∷ []
   pair-front = ap (take 4) p.text ∙ slice-sets s 0 (x ∷ 44 ∷ y ∷ 44 ∷ []) (omega arith)
 
-  left-numeric : (u : Ty) → x ≡ kind_of (numeric u) → Operand s₁ 0 2 4 (numeric u)
+  left-numeric : (u : Ty) → x ≡ kind_of (numeric u) → Operand s₁ (span 0 2) 4 (numeric u)
   left-numeric u e =
       let (b, q) = numeric-base u in
       let z : x ≡ letter b = e ∙ kind-letter (numeric u) b q in
       rw q (base-operand b (omega arith) (omega arith) (omega (arith, pair-long)) (sym (slice-take 0 2 4 s₁ (omega arith)) ∙ ap (λ (l : Bytes). slice 0 2 l) pair-front ∙ ap (λ (k : ℕ). k ∷ 44 ∷ []) z))
 
-  right-numeric : (u : Ty) → y ≡ kind_of (numeric u) → Operand s₁ 2 4 4 (numeric u)
+  right-numeric : (u : Ty) → y ≡ kind_of (numeric u) → Operand s₁ (span 2 4) 4 (numeric u)
   right-numeric u e =
       let (b, q) = numeric-base u in
       let z : y ≡ letter b = e ∙ kind-letter (numeric u) b q in
       rw q (base-operand b (omega arith) (omega arith) (omega (arith, pair-long)) (sym (slice-take 2 4 4 s₁ (omega arith)) ∙ ap (λ (l : Bytes). slice 2 4 l) pair-front ∙ ap (λ (k : ℕ). k ∷ 44 ∷ []) z))
 
   module _ {a b : ℕ} (ks : SomeKinds a b) (i : NumericKind a x) (j : NumericKind b y) where
-    pub pair-ready : Ready s₁ 0 2 2 4 4
+    pub pair-ready : Ready s₁ (span 0 2) (span 2 4) 4
     pair-ready =
         let u = ks.first.ty in
         let v = ks.second.ty in
@@ -199,14 +179,14 @@ module _ {s s₁ : Bytes} {x y r : ℕ} (h : 8192 ≤ length s) (p : Puts (x ∷
             let (c, w) = numeric-base v in
             rw (q, w) (slots-base b c)
 
-    module _ {s₂ : Bytes} {o : Unified} (w : Unifies s₁ s₂ 0 2 2 4 4 o) where
+    module _ {s₂ : Bytes} {o : Unified} (w : Unifies s₁ s₂ (span 0 2) (span 2 4) 4 o) where
       run_of : (u v : Ty) → kind_of u ≡ a → kind_of v ≡ b → Answered (verdict (unify (numeric u) (numeric v))) s₂ 4 o
       run_of u v e f = w.answer (numeric u) (numeric v) (left-numeric u (i.is u e)) (right-numeric v (j.is v f))
 
       long : length s₂ ≡ length s
       long = w.below.long ∙ pair-long
 
-      pub computed-done : {m : Tally} {e : ℕ} {s₃ : Bytes} → o ≡ Done e → s₃ ≡ sets s₂ 0 (slice 4 (4 + (e - 4)) s₂) → Computed a b s s₃ m (Typed (e - 4) m)
+      pub computed-done : {m : Tally} {e : ℕ} {s₃ : Bytes} → o ≡ Ok e → s₃ ≡ sets s₂ 0 (slice 4 (4 + (e - 4)) s₂) → Computed a b s s₃ m (Some (record { len = e - 4; tally = m }))
       computed-done {m} {e} {s₃} q c u v d f fs out out' n ad =
           let (t, z, y) = done-run s₂ 4 (verdict (unify (numeric u) (numeric v))) (run_of u v d f) q in
           ends-settled (settle (copied t y)) (ap (λ (R : Run). or_much R (λ t. told t fs) (told (base t_unknown) fs)) z) long ad
@@ -219,40 +199,40 @@ module _ {s s₁ : Bytes} {x y r : ℕ} (h : 8192 ≤ length s) (p : Puts (x ∷
               let x : s₃ ≡ sets s₂ 0 (line t) = c ∙ ap (λ (k : ℕ). sets s₂ 0 (slice 4 k s₂)) n ∙ ap (sets s₂ 0) y.is in
               rw (x, ← l) (front-line s₂ t (omega (arith, l, y.inside)))
 
-      pub computed-apart : {m : Tally} {i' j' : Span} {len : ℕ} {s₃ : Bytes} → o ≡ Mismatch i' j' → Puts (80 ∷ 44 ∷ []) s₂ s₃ len → Computed a b s s₃ m (Typed len m)
+      pub computed-apart : {m : Tally} {i' j' : Span} {len : ℕ} {s₃ : Bytes} → o ≡ Err (Mismatch i' j') → Puts (80 ∷ 44 ∷ []) s₂ s₃ len → Computed a b s s₃ m (Some (record { len = len; tally = m }))
       unfolding letter
       computed-apart q c u v d f fs out out' n ad =
           let (x, y, z) = apart-run s₂ 4 (verdict (unify (numeric u) (numeric v))) (run_of u v d f) q in
           ends-settled (settle (put-base t_unknown refl (omega (arith, long)) c)) (ap (λ (R : Run). or_much R (λ t. told t fs) (told (base t_unknown) fs)) z) long ad
 
-      pub computed-large : {m : Tally} → o ≡ TooLarge → Computed a b s s₂ m Large
+      pub computed-large : {m : Tally} → o ≡ Err TooLarge → Computed a b s s₂ m None
       computed-large q u v d f fs out out' n ad =
           let z = large-run s₂ 4 (verdict (unify (numeric u) (numeric v))) (run_of u v d f) q in
           ends-large (ap (λ (R : Run). or_much R (λ t. told t fs) (told (base t_unknown) fs)) z) long ad
 
 -- ## A binary operator
 
-module _ {s s' out : Bytes} {n : Tally} {st : Accumulator} {r : Ended} {o : Op} {a b : Ty} (h : TwoAt a b s st) where
-  pub binary-arithmetic : {out' : Bytes} {m : Tally} → o ≡ arithmetic → TwoAsked a_number (get_or s 0 0) (get_or s st.len 0) out out' n m → Computed (get_or s 0 0) (get_or s st.len 0) s s' m r
+module _ {s s' out : Bytes} {n : Tally} {st : Accumulator} {o : Op} {a b : Ty} (h : TwoAt a b s st) where
+  pub binary-arithmetic : {out' : Bytes} {m : Tally} {r : Option Typed} → o ≡ arithmetic → TwoAsked a_number (get_or s 0 0) (get_or s st.len 0) out out' n m → Computed (get_or s 0 0) (get_or s st.len 0) s s' m r
       → Ends (end_op o a b) s s' out out' n r
   unfolding end_op op_faults
   binary-arithmetic {out'} e k c = rw e (c a b (left-kind h) (right-kind h) (require a_number a ++ require a_number b) out out' n (k a b (left-kind h) (right-kind h)))
 
-  pub binary-equality : o ≡ equality → Settles (base t_bool) s s' n r → Ends (end_op o a b) s s' out out n r
+  pub binary-equality : {r : Typed} → o ≡ equality → Settles (base t_bool) s s' n r → Ends (end_op o a b) s s' out out n (Some r)
   unfolding end_op
   binary-equality e g = rw e (g [] out out n adds_none)
 
-  pub binary-boolean : {out' : Bytes} {m : Tally} → o ≡ boolean → TwoAsked a_bool (get_or s 0 0) (get_or s st.len 0) out out' n m → Settles (base t_bool) s s' m r → Ends (end_op o a b) s s' out out' n r
+  pub binary-boolean : {out' : Bytes} {m : Tally} {r : Typed} → o ≡ boolean → TwoAsked a_bool (get_or s 0 0) (get_or s st.len 0) out out' n m → Settles (base t_bool) s s' m r → Ends (end_op o a b) s s' out out' n (Some r)
   unfolding end_op op_faults
   binary-boolean {out'} e k g = rw e (g (require a_bool a ++ require a_bool b) out out' n (k a b (left-kind h) (right-kind h)))
 
-  pub binary-string : {out' : Bytes} {m : Tally} → o ≡ string → TwoAsked a_string (get_or s 0 0) (get_or s st.len 0) out out' n m → Settles (base t_bool) s s' m r → Ends (end_op o a b) s s' out out' n r
+  pub binary-string : {out' : Bytes} {m : Tally} {r : Typed} → o ≡ string → TwoAsked a_string (get_or s 0 0) (get_or s st.len 0) out out' n m → Settles (base t_bool) s s' m r → Ends (end_op o a b) s s' out out' n (Some r)
   unfolding end_op op_faults
   binary-string {out'} e k g = rw e (g (require a_string a ++ require a_string b) out out' n (k a b (left-kind h) (right-kind h)))
 
-pub binary-concat : {s s' out : Bytes} {n : Tally} {len : ℕ} {o : Op} (a b : Ty) → o ≡ concat → 2 ≤ length s → Puts (65 ∷ 44 ∷ []) s s' len → Ends (end_op o a b) s s' out out n (Typed len n)
+pub binary-concat : {s s' out : Bytes} {n : Tally} {len : ℕ} {o : Op} (a b : Ty) → o ≡ concat → 2 ≤ length s → Puts (65 ∷ 44 ∷ []) s s' len → Ends (end_op o a b) s s' out out n (Some (record { len = len; tally = n }))
 unfolding end_op
 binary-concat {out = out} {n = n} a b e h p = rw e (settle (put-any h p) [] out out n adds_none)
 
-pub binary-comparison : {s s' out : Bytes} {n : Tally} {r : Ended} {o : Op} (a b : Ty) → o ≡ comparison → Ends (end_op comparison a b) s s' out out n r → Ends (end_op o a b) s s' out out n r
+pub binary-comparison : {s s' out : Bytes} {n : Tally} {r : Option Typed} {o : Op} (a b : Ty) → o ≡ comparison → Ends (end_op comparison a b) s s' out out n r → Ends (end_op o a b) s s' out out n r
 binary-comparison a b e h = rw e h

@@ -2,7 +2,9 @@
 #![tactic(auto)]
 
 mod membership;
+mod need;
 mod operators;
 
 pub use membership::check_in_list;
-pub use operators::{infer_binop, infer_unaryop, require_bool};
+pub use need::{Need, require};
+pub use operators::{infer_binop, infer_unaryop};

@@ -5,27 +5,24 @@ ghost use Rattle.walk_run.specs.Run.{end_in};
 ghost use Rattle.exprs.specs.End.{Ends, Countable, TwoAt, SomeTwo};
 ghost use Rattle.operators.specs.Helpers.{SomeKinds, Parted, LetsIn};
 
-use exprs::{Accumulator, Ended, is_bool};
-use report::Tally;
+use exprs::{Accumulator, Typed, is_bool};
+use report::{Tally, TypeFault};
 use ty::{ANY, LIST, NULL, UNKNOWN};
-use unify::Unified;
+use unify::{Span, UnifyError};
 
 // A mismatch is a fault where neither side is open.
 fn mismatch_in(a: u8, b: u8, out: &mut [u8], tally: Tally) -> Tally
     requires { SomeKinds a b × Countable tally }
     ensures { Parted a b out.old out.new tally result }
 {
-    if report::is_open(a) {
-        return tally;
-    }
-    if report::is_open(b) {
+    if report::is_open(a) || report::is_open(b) {
         return tally;
     }
     report::fault_in(out, tally, a, b)
 }
 
 // With a list on the right: the operand against its element.
-fn in_list(st: Accumulator, work: &mut [u8], out: &mut [u8], tally: Tally) -> Ended
+fn in_list(st: Accumulator, work: &mut [u8], out: &mut [u8], tally: Tally) -> Option<Typed>
     requires { SomeTwo work.old st × Countable tally × (get_or work.old st.len 0 ≡ 74) }
     ensures { (a b : Ty) → TwoAt a b work.old st → Ends (end_in a b) work.old work.new out.old out.new tally result }
 {
@@ -34,16 +31,18 @@ fn in_list(st: Accumulator, work: &mut [u8], out: &mut [u8], tally: Tally) -> En
     let a = work[0];
     let element = ty::element(&work[k..e]);
     let b = element[0];
-    match unify::unify(work, 0, k, k + 2, e, e) {
-        Unified::Done(_) => is_bool(work, tally),
-        Unified::Mismatch {
-            expected: _,
-            actual: _,
-        } => {
+    match unify::unify(
+        work,
+        Span { from: 0, to: k },
+        Span { from: k + 2, to: e },
+        e,
+    ) {
+        Ok(_) => Some(is_bool(work, tally)),
+        Err(UnifyError::Mismatch { .. }) => {
             let c = mismatch_in(a, b, out, tally);
-            is_bool(work, c)
+            Some(is_bool(work, c))
         }
-        Unified::TooLarge => Ended::Large,
+        Err(UnifyError::TooLarge) => None,
     }
 }
 
@@ -51,15 +50,15 @@ fn in_list(st: Accumulator, work: &mut [u8], out: &mut [u8], tally: Tally) -> En
 fn lets_in(kind: u8) -> bool
     ensures { LetsIn kind result }
 {
-    match kind {
-        ANY => true,
-        NULL => true,
-        UNKNOWN => true,
-        _ => false,
-    }
+    matches!(kind, ANY | NULL | UNKNOWN)
 }
 
-pub fn check_in_list(st: Accumulator, work: &mut [u8], out: &mut [u8], tally: Tally) -> Ended
+pub fn check_in_list(
+    st: Accumulator,
+    work: &mut [u8],
+    out: &mut [u8],
+    tally: Tally,
+) -> Option<Typed>
     requires { SomeTwo work.old st × Countable tally }
     ensures { (a b : Ty) → TwoAt a b work.old st → Ends (end_in a b) work.old work.new out.old out.new tally result }
 {
@@ -69,8 +68,8 @@ pub fn check_in_list(st: Accumulator, work: &mut [u8], out: &mut [u8], tally: Ta
         return in_list(st, work, out, tally);
     }
     if lets_in(b) {
-        return is_bool(work, tally);
+        return Some(is_bool(work, tally));
     }
-    let c = report::fault(out, tally, report::E2013, b);
-    is_bool(work, c)
+    let c = report::fault(out, tally, TypeFault::E2013, b);
+    Some(is_bool(work, c))
 }

@@ -1,11 +1,7 @@
 -- Answers made from a fact. Assumes nothing.
-use Rattle.std.proofs.Common.{◌≡◌, ℕ, Bool, true, false, sym, arith}
+use Rattle.std.proofs.Common.{Bool, true, false, sym}
 use mathlib.Core.Bool.{false≢true}
-use Rattle.replay.specs.declared.Verdict.TheVariants.{Same, Differs, Skipped}
-use Rattle.replay.specs.Judged.{Decides, Judges}
-
-unlike : ◌≡◌ {A = ℕ} 0 1 → ⊥
-unlike e = omega arith
+use Rattle.replaying.specs.Judged.{Decides}
 
 module _ {P : Type 0} where
   pub holds : P → Decides true P
@@ -13,15 +9,6 @@ module _ {P : Type 0} where
 
   pub fails : (P → ⊥) → Decides false P
   fails d = record { yes = λ e. absurd (false≢true e); no = λ e. d }
-
-  pub same : P → Judges Same P
-  same p = record { same = λ e. p; differs = λ e. absurd (unlike (cc)) }
-
-  pub differs : (P → ⊥) → Judges Differs P
-  differs d = record { same = λ e. absurd (unlike (cc)); differs = λ e. d }
-
-  pub skipped : Judges Skipped P
-  skipped = record { same = λ e. absurd (unlike (cc)); differs = λ e. absurd (unlike (cc)) }
 
 -- facts that hold together are decided alike
 pub decides : {P Q : Type 0} {r : Bool} → (P → Q) → (Q → P) → Decides r P → Decides r Q

@@ -1,10 +1,10 @@
 -- Buffers that are filled with one byte. Assumes nothing.
-use Rattle.std.proofs.Common.{◌≡◌, ℕ, zero, suc, ◌-◌, ◌<◌, ◌≤◌, Bool, true, false, ◌∷◌, length, get_or, take, drop, replicate, sym, refl, ap, ◌∙◌, arith, length-append, length-drop, take-append-drop, take_all, take_at, ext_get_or, drop_at}
-use mathlib.Core.Bool.{false≢true}
+use Rattle.std.proofs.Common.{◌≡◌, ℕ, zero, suc, ◌-◌, ◌<◌, ◌≤◌, Bool, true, false, ◌∷◌, ◌++◌, length, get_or, take, drop, replicate, sym, refl, ap, ◌∙◌, arith, length-append, ext_get_or, drop_at}
 use lib.ListN.{length-replicate, get_or-replicate}
-use Rattle.semantics.specs.Bytes.{Bytes, same}
-use Rattle.semantics.proofs.Order.{same-eq, same_refl}
-use Rattle.replay.specs.Judged.{Decides}
+use Rattle.semantics.specs.Bytes.{Bytes}
+use Rattle.std.specs.Bool.{MatchBool}
+use Rattle.std.specs.List.{AllWithin, HoldsAt}
+use Rattle.replaying.specs.Judged.{Decides}
 use Rattle.replay.specs.Stored.{filled}
 use Rattle.replay.proofs.Decided.{holds, fails, decides}
 
@@ -16,6 +16,11 @@ all_alike s b h = holds (ext_get_or 0 s (replicate (length s) b) (sym (length-re
 pub one-unlike : (s : Bytes) (b i : ℕ) → i < length s → (get_or s i 0 ≡ b → ⊥) → Decides false (s ≡ replicate (length s) b)
 one-unlike s b i l d = fails λ e. d (ap (λ (t : Bytes). get_or t i 0) e ∙ get_or-replicate (length s) i b 0 l)
 
+-- what `all` says
+pub all-decides : (s : Bytes) (b : ℕ) (r : Bool) → MatchBool r (AllWithin (λ x. x ≡ b) s 0 (length s)) ((k : ℕ) × (k < length s) × HoldsAt (λ x. x ≡ b → ⊥) s k) → Decides r (s ≡ replicate (length s) b)
+all-decides s b true h = all_alike s b (λ k l. h k 0 (omega arith) l)
+all-decides s b false h = one-unlike s b h.0 h.1 (h.2 0)
+
 pub take-replicate : (k n b : ℕ) → k ≤ n → take k (replicate n b) ≡ replicate k b
 take-replicate zero n b h = refl
 take-replicate (suc k) zero b h = absurd (omega arith)
@@ -23,30 +28,21 @@ take-replicate (suc k) (suc n) b h = ap (λ (l : Bytes). b ∷ l) (take-replicat
 
 -- ## A text and then one byte
 
-module _ (s t : Bytes) (b : ℕ) where
-  pub too_long : length s < length t → Decides false (s ≡ filled t (length s) b)
-  too_long h = fails λ e. omega (arith, ap length e ∙ length-append t (replicate (length s - length t) b))
+pub rest-decides : (s t rest : Bytes) (b : ℕ) {r : Bool} → s ≡ t ++ rest → Decides r (rest ≡ replicate (length rest) b) → Decides r (s ≡ filled t (length s) b)
+rest-decides s t rest b e = decides to from
+  where
+    n : length s - length t ≡ length rest
+    n = omega (arith, ap length e, length-append t rest)
 
-  pub front-unlike : same (take (length t) s) t ≡ false → Decides false (s ≡ filled t (length s) b)
-  front-unlike d = fails λ e.
-      let front : take (length t) s ≡ t = ap (take (length t)) e ∙ take_at t (replicate (length s - length t) b) (length t) refl in
-      false≢true (sym d ∙ rw front (same_refl t))
+    to : rest ≡ replicate (length rest) b → s ≡ filled t (length s) b
+    to q = e ∙ ap (λ (x : Bytes). t ++ x) (q ∙ ap (λ (k : ℕ). replicate k b) (sym n))
 
-  -- what is behind the front
-  abbrev Rest : Bytes
-  Rest = take (length s - length t) (drop (length t) s)
+    from : s ≡ filled t (length s) b → rest ≡ replicate (length rest) b
+    from q =
+        sym (drop_at t rest (length t) refl)
+        ∙ ap (drop (length t)) (sym e ∙ q)
+        ∙ drop_at t (replicate (length s - length t) b) (length t) refl
+        ∙ ap (λ (k : ℕ). replicate k b) n
 
-  module _ (front : same (take (length t) s) t ≡ true) where
-    rest-whole : Rest ≡ drop (length t) s
-    rest-whole = take_all (length s - length t) (drop (length t) s) (rw (length-drop) (omega arith))
-
-    rest-filled : Rest ≡ replicate (length Rest) b → s ≡ filled t (length s) b
-    rest-filled e =
-        let r : drop (length t) s ≡ replicate (length (drop (length t) s)) b = rw rest-whole at e in
-        sym (take-append-drop (length t) s) ∙ rw (same-eq {b = t} front, r, length-drop)
-
-    filled-rest : s ≡ filled t (length s) b → Rest ≡ replicate (length Rest) b
-    filled-rest e = rw (rest-whole, length-drop) (ap (drop (length t)) e ∙ drop_at t (replicate (length s - length t) b) (length t) refl)
-
-    pub rest-decides : {r : Bool} → Decides r (Rest ≡ replicate (length Rest) b) → Decides r (s ≡ filled t (length s) b)
-    rest-decides = decides rest-filled filled-rest
+pub other_front : (s t : Bytes) (b : ℕ) → ((rest : Bytes) → s ≡ t ++ rest → ⊥) → Decides false (s ≡ filled t (length s) b)
+other_front s t b d = fails λ e. d (replicate (length s - length t) b) e

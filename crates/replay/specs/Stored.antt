@@ -4,10 +4,9 @@ use Rattle.semantics.specs.Bytes.{Bytes}
 use Rattle.semantics.specs.Calls.{Settled, sheet_call, unify_call}
 use Rattle.old_lines.specs.Old.{regular_call}
 use Rattle.unifying.specs.Call.{settled_by}
-use Rattle.unifying.specs.declared.Call.{Call}
-use Rattle.replay.specs.declared.Want.{Want}
-use Rattle.replay.specs.declared.Kind.{Kind}
-use Rattle.replay.specs.declared.Kind.TheVariants.{Sheet, Pair, Old}
+use Rattle.replaying.specs.declared.answer.Answer.{Answer}
+use Rattle.replay.specs.declared.Call.{Call}
+use Rattle.replay.specs.declared.Call.TheVariants.{Sheet, Pair, Old}
 
 -- `t`, and then `b` up to `n` bytes
 abbrev pub filled : Bytes → ℕ → ℕ → Bytes
@@ -24,16 +23,15 @@ work_byte n = elim (among 1 2 n) [ true ↦ 170 | false ↦ 0 ]
 unfoldable pub out_byte : ℕ → ℕ
 out_byte n = elim (among 3 8 n) [ true ↦ 0 | false ↦ elim (n == 12) [ true ↦ 0 | false ↦ 187 ] ]
 
-pub record Answers (c : Call) (want : Want) : Type 0 where
-  pub number : c.number ≡ want.number
-  pub first : c.first ≡ want.first
-  pub second : c.second ≡ want.second
+-- what an answer and the two buffers tell of a call
+abbrev pub left_by : Answer → Bytes → Bytes → Settled
+left_by a work out = settled_by a.number a.first a.second work out
 
 -- every number and every byte
-abbrev pub stored_by : Want → ℕ → ℕ → Bytes → Settled
-stored_by want w o e = settled_by want.number want.first want.second (replicate w (work_byte want.number)) (filled e o (out_byte want.number))
+abbrev pub stored_by : Answer → ℕ → ℕ → Bytes → Settled
+stored_by want w o e = left_by want (replicate w (work_byte want.number)) (filled e o (out_byte want.number))
 
-abbrev pub Agrees : Kind → Bytes → Bytes → Bytes → Bytes → Want → Bytes → Type 0
-Agrees Sheet a b work out want e = sheet_call a work out ≡ stored_by want (length work) (length out) e
-Agrees Pair a b work out want e = unify_call a b work out ≡ stored_by want (length work) (length out) e
-Agrees Old a b work out want e = regular_call a work out ≡ stored_by want (length work) (length out) e
+abbrev pub Agrees : Call → Bytes → Bytes → Answer → Bytes → Type 0
+Agrees (Sheet a) work out want e = sheet_call a.now work out ≡ stored_by want (length work) (length out) e
+Agrees (Pair a b) work out want e = unify_call a.now b.now work out ≡ stored_by want (length work) (length out) e
+Agrees (Old a) work out want e = regular_call a.now work out ≡ stored_by want (length work) (length out) e

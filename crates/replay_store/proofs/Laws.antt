@@ -1,44 +1,37 @@
--- A call's answer beside the stored one, and a front with zeros behind it. Assumes nothing.
-use Rattle.std.proofs.Common.{◌≡◌, ℕ, zero, suc, ◌+◌, ◌-◌, ◌≤◌, true, false, eqb, ◌∷◌, ◌++◌, length, take, drop, sym, refl, ap, ◌∙◌, subst, arith, eqb-true}
+-- An answer beside the stored one, and a front with zeros behind it. Assumes nothing.
+use Rattle.std.proofs.Common.{◌≡◌, ℕ, zero, suc, ◌+◌, ◌-◌, ◌≤◌, Bool, false, ◌∷◌, ◌++◌, length, take, drop, sym, refl, ap, ap₂, ◌∙◌, subst, arith}
 use mathlib.Core.Bool.{false≢true}
 use lib.ListN.{length-replicate}
 use lib.Seq.{sets, sets-eq, take-append-add}
 use Rattle.semantics.specs.Bytes.{Bytes, same}
-use Rattle.semantics.proofs.Order.{same-eq}
+use Rattle.semantics.proofs.Order.{same-eq, same_refl}
 use Rattle.stores.specs.Catalogue.{Kept}
-use Rattle.catalogue.specs.Stands.{kept_by, looked_as}
-use Rattle.catalogue.specs.declared.Call.{Call}
+use Rattle.catalogue.specs.Stands.{looked_as}
 use Rattle.stores.proofs.Stored.{blank}
-use Rattle.replay_store.specs.declared.Want.{Want}
-use Rattle.replay_store.specs.declared.Kind.{Kind}
-use Rattle.replay_store.specs.declared.Verdict.{Verdict}
-use Rattle.replay_store.specs.declared.Verdict.TheVariants.{Differs, Skipped}
-use Rattle.replay_store.specs.Judged.{Judges, Answers, Agrees, kept_of, padded}
+use Rattle.replaying.specs.declared.answer.Answer.{Answer}
+use Rattle.replaying.specs.declared.answer.Verdict.{Verdict}
+use Rattle.replaying.specs.Judged.{Decides, Judges}
+use Rattle.replay_store.specs.declared.Call.{Call}
+use Rattle.replay_store.specs.Agrees.{Agrees, kept_of, padded}
 
--- ## Verdicts that say nothing
-
-unlike : ◌≡◌ {A = ℕ} 0 1 → ⊥
-unlike e = omega arith
-
-pub differs : {P : Type 0} → Judges Differs P
-differs e = absurd (unlike (cc))
-
-pub skipped : {P : Type 0} → Judges Skipped P
-skipped e = absurd (unlike (cc))
-
-pub no_answer : {P : Type 0} → false ≡ true → P
-no_answer e = absurd (false≢true e)
+apart : (s t : Bytes) → same s t ≡ false → s ≡ t → ⊥
+apart s t f e = false≢true (sym f ∙ ap (same s) (sym e) ∙ same_refl s)
 
 -- ## The numbers and the bytes
 
-pub answer : (c : Call) (want : Want) → c.number ≡ want.number → c.first ≡ want.first → eqb c.second want.second ≡ true → Answers c want
-answer c want n f e = record { number = n; first = f; second = eqb-true c.second want.second e }
+pub kept-so : (a want : Answer) (s after : Bytes) (r : Bool) → a ≡ want → r ≡ same s after → Decides r (kept_of a s ≡ kept_of want after)
+kept-so a want s after r e q =
+    record {
+      yes = λ t. ap₂ (λ (x : Answer) (y : Bytes). kept_of x y) e (same-eq (sym q ∙ t));
+      no = λ f k. apart s after (sym q ∙ f) (ap (λ (x : Kept). x.store) k);
+    }
 
-pub kept-so : (k : Kept) (c : Call) (want : Want) (s after : Bytes) → kept_by c s ≡ k → Answers c want → same s after ≡ true → k ≡ kept_of want after
-kept-so k c want s after told a e = sym told ∙ rw (a.number, a.first, a.second, same-eq e)
-
-pub looked-so : (k : Kept) (n u : ℕ) (want : Want) (t line s : Bytes) → looked_as n u t s ≡ k → n ≡ want.number → u ≡ want.first → same t line ≡ true → k ≡ looked_as want.number want.first line s
-looked-so k n u want t line s told p q e = sym told ∙ rw (p, q, same-eq e)
+pub looked-so : (k : Kept) (u : ℕ) (want : Answer) (t line s : Bytes) (r : Bool) → looked_as 0 u t s ≡ k → want.number ≡ 0 → want.first ≡ u → r ≡ same t line → Decides r (k ≡ looked_as want.number want.first line s)
+looked-so k u want t line s r told p q e =
+    record {
+      yes = λ v. sym told ∙ rw (p, q) (ap (λ (x : Bytes). looked_as 0 u x s) (same-eq (sym e ∙ v)));
+      no = λ f z. apart t line (sym e ∙ f) (ap (λ (x : Kept). x.told.text) (told ∙ z));
+    }
 
 -- ## A front, and zeros behind it
 
@@ -64,9 +57,9 @@ front-padded t m n h l =
     let p : n ≡ k + (n - k) = omega arith in
     ap (take n) e ∙ ap (λ (x : ℕ). take x (t ++ blank (m - k))) p ∙ take-append-add t (blank (m - k)) (n - k) ∙ ap (λ (x : Bytes). t ++ x) (take-zeros (n - k) (m - k) (omega arith))
 
-pub lent : (v : Verdict) (kind : Kind) (front after t s x : Bytes) (size number : ℕ) (want : Want) → length front ≤ size → length after ≤ size → size ≤ 65537 → s ≡ sets (blank 65537) 0 front → x ≡ sets (blank 65537) 0 after
-    → Judges v (Agrees kind (take size s) t number want (take size x)) → Judges v (Agrees kind (padded front size) t number want (padded after size))
-lent v kind front after t s x size number want f a b p q j =
+pub lent : (v : Verdict) (call : Call) (front after s x : Bytes) (size : ℕ) (want : Answer) → length front ≤ size → length after ≤ size → size ≤ 65537 → s ≡ sets (blank 65537) 0 front → x ≡ sets (blank 65537) 0 after
+    → Judges v (Agrees call (take size s) want (take size x)) → Judges v (Agrees call (padded front size) want (padded after size))
+lent v call front after s x size want f a b p q j =
     let y : take size s ≡ padded front size = ap (take size) p ∙ front-padded front 65537 size f b in
     let z : take size x ≡ padded after size = ap (take size) q ∙ front-padded after 65537 size a b in
-    subst (λ (w : Bytes). Judges v (Agrees kind w t number want (padded after size))) y (subst (λ (w : Bytes). Judges v (Agrees kind (take size s) t number want w)) z j)
+    subst (λ (w : Bytes). Judges v (Agrees call w want (padded after size))) y (subst (λ (w : Bytes). Judges v (Agrees call (take size s) want w)) z j)

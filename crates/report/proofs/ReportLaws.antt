@@ -2,25 +2,28 @@
 use Prim.Native.Nat.{ℕ, ◌+◌, ◌*◌, ◌≤◌}
 use native.Mathlib.Omega.{arith}
 use borrow.Author.Tests.{ne_eqb}
-use mathlib.Core.Path.{◌≡◌, refl, sym, ap, ap₂, subst, ◌∙◌}
-use mathlib.Core.Logic.{inl, inr}
+use mathlib.Core.Path.{◌≡◌, refl, sym, ap, ap₂, ◌∙◌}
 use mathlib.Core.List.{List, [], ◌∷◌, ◌++◌, append_assoc, map as map_l}
 use mathlib.Core.Bool.{Bool, true, false, ◌||◌}
 use lib.Dec.{eqb}
-use lib.ListN.{length, set, take, replicate, length-append}
+use lib.ListN.{length, set, length-append}
 use lib.Seq.{sets}
 use Rattle.semantics.specs.Bytes.{Bytes, text, unlines, shown, shown_in}
 use Rattle.semantics.specs.Ty.{Ty, base, t_list, t_map, t_node, t_relationship, t_union, letter, among, matches}
 use Rattle.semantics.specs.Builtins.{ArgShape, Builtin, signature, describe}
 use Rattle.semantics.specs.Walk.{Fault, fault_2009, fault_2010, fault_2011, fault_2012, fault_2013, fault_5012, Top, is_open}
 use Rattle.semantics.specs.Calls.{type_name, fault_text, fault_line, top_line, fault_count, end_line, top_lines, report_lines, report}
-use Rattle.text.proofs.Laws.{sets-append, take-sets}
+use Rattle.text.proofs.Laws.{sets-append}
 use Rattle.ty.specs.Read.{kind_of}
+use Rattle.ty.specs.Kind.{SomeKind, NamesKind}
 use Rattle.ty.proofs.KindLaws.{kind-name}
 use Rattle.builtins.proofs.Laws.{name-short, describe-short}
-use Rattle.writer.specs.Written.{line_text}
+use Rattle.writer.specs.declared.Writer.{Writer}
+use Rattle.writer.specs.Written.{Wrote}
 use Rattle.report.specs.declared.Tally.{Tally}
-use Rattle.report.specs.Report.{faults_text, type_text, tops_text, numbers_text, end_text, code_text, Appends, Starts, NumbersLine, Adds, code_fault, IsCode, IsFaultCode, OpenKind}
+use Rattle.report.specs.declared.TypeFault.{TypeFault}
+use Rattle.report.specs.declared.TypeFault.TheVariants.{E2009, E2010, E2011, E2013}
+use Rattle.report.specs.Report.{faults_text, type_text, tops_text, end_text, fault_head, Appends, Adds, code_fault, code_of, OpenKind}
 
 -- ## One text behind another
 
@@ -39,35 +42,10 @@ wrote s p = record { text = p.1; end = p.0 }
 pub one : (b : ℕ) {o o' : Bytes} {f r : ℕ} → (r ≡ f + 1) × (o' ≡ set o f b) → Appends (b ∷ []) o o' f r
 one b p = record { text = p.1; end = p.0 }
 
--- the room for a body, before anything stands in it
-abbrev pub room : Bytes
-room = replicate 64 0
-
--- a body in its room: the text up to its end
-pub record Body (s l : Bytes) (k : ℕ) : Type 0 where
-  pub is : take k l ≡ s
-  pub size : length (take k l) ≡ k
-  pub inside : k ≤ 64
-
--- texts that were put together from the room's front
-pub body : {s l : Bytes} {k : ℕ} → Appends s room l 0 k → length s ≤ 64 → Body s l k
-body {s} {l} {k} p h = record { is = same; size = ap length same ∙ omega (arith, p.end); inside = omega (arith, p.end, h) }
-  where
-    end : k ≡ 0 + length s
-    end = p.end
-
-    same : take k l ≡ s
-    same = ap₂ take end p.text ∙ take-sets room 0 s (omega (arith, h))
-
--- a line of two numbers, by its body
-pub numbers : (h : Bytes) (n m : ℕ) {body o o' : Bytes} {f r : ℕ} → body ≡ shown n ++ (44 ∷ shown m) → length body ≤ 41
-    → (r ≡ f + length (line_text h body)) × (o' ≡ sets o f (line_text h body)) → NumbersLine h n m o o' f r
-numbers h n m {body} {o} {o'} {f} {r} e l w =
-    let t : line_text h body ≡ numbers_text h n m = ap (line_text h) e ∙ simp append_assoc in
-    record {
-      appended = wrote (numbers_text h n m) (rw t at w);
-      short = omega (arith, w.0, length-append h (body ++ (10 ∷ [])), length-append body (10 ∷ []), l);
-    }
+-- what a writer wrote on the output
+pub wrote_line : {s : Bytes} {w w' : Writer} {o o' : Bytes} {f r : ℕ} → Wrote s w w' → w.out.now ≡ o → w.fill ≡ f → o' ≡ w'.out.now → r ≡ w'.fill → Appends s o o' f r
+wrote_line {s} p a b c d =
+    record { text = c ∙ p.text ∙ ap₂ (λ (x : Bytes) (k : ℕ). sets x k s) a b; end = d ∙ p.end ∙ ap (λ (k : ℕ). k + length s) b }
 
 -- ## Faults
 
@@ -96,50 +74,37 @@ adds_then {fs} {gs} {out} {out'} {out''} {t} {t'} {t''} p q =
     }
 
 -- a line that was written, and counted
-pub adds-line : (f : Fault) {body out out' : Bytes} {t t' : Tally} {k : ℕ} → fault_text f ≡ body → (k ≡ t.fill + length (line_text (70 ∷ 44 ∷ []) body)) × (out' ≡ sets out t.fill (line_text (70 ∷ 44 ∷ []) body))
-    → t'.fill ≡ k → t'.faults ≡ t.faults + 1 → Adds (f ∷ []) out out' t t'
-unfolding faults_text fault_line
-adds-line f {body} {out} {out'} {t} {t'} {k} e w n m =
-    record {
-      text = w.1 ∙ ap (λ (s : Bytes). sets out t.fill (line_text (70 ∷ 44 ∷ []) s)) (sym e);
-      end = n ∙ w.0 ∙ ap (λ (s : Bytes). t.fill + length (line_text (70 ∷ 44 ∷ []) s)) (sym e);
-      count = m;
-    }
+pub adds-line : (f : Fault) {s out out' : Bytes} {t t' : Tally} → s ≡ fault_line f ++ (10 ∷ []) → Appends s out out' t.fill t'.fill → t'.faults ≡ t.faults + 1 → Adds (f ∷ []) out out' t t'
+unfolding faults_text
+adds-line f {s} {out} {out'} {t} e w m =
+    record { text = w.text ∙ ap (sets out t.fill) e; end = w.end ∙ ap (λ (x : Bytes). t.fill + length x) e; count = m }
 
--- a fault's code: its fixed bytes
-pub starts : (k : ℕ) {c : ℕ} {o o' : Bytes} {r : ℕ} → c ≡ k → length (code_text k) ≤ 5 → (r ≡ 0 + length (code_text k)) × (o' ≡ sets o 0 (code_text k))
-    → Starts c o o' r
-starts k {c} {o} {o'} {r} e l p =
-    subst (λ (n : ℕ). Starts n o o' r) (sym e) (record { appended = wrote (code_text k) p; short = omega (arith, p.0, l) })
+pub head-long : (c : TypeFault) → length (fault_head (code_of c)) ≡ 7
+unfolding text shown shown_in
+head-long c = elim c as (λ k. length (fault_head (code_of k)) ≡ 7) [ E2009 ↦ refl | E2010 ↦ refl | E2011 ↦ refl | E2013 ↦ refl ]
 
--- the code that is left
-pub last_code : (c : ℕ) → IsFaultCode c → (c ≡ 2009 → ⊥) → (c ≡ 2010 → ⊥) → (c ≡ 2011 → ⊥) → (c ≡ 2012 → ⊥) → (c ≡ 2013 → ⊥) → c ≡ 5012
-last_code c (inl (inl e)) h i j k l = absurd (h e)
-last_code c (inl (inr (inl e))) h i j k l = absurd (i e)
-last_code c (inl (inr (inr (inl e)))) h i j k l = absurd (j e)
-last_code c (inl (inr (inr (inr e)))) h i j k l = absurd (l e)
-last_code c (inr (inl e)) h i j k l = absurd (k e)
-last_code c (inr (inr e)) h i j k l = e
+-- what the lines are made of
+pub code-line : (c : TypeFault) (t : Ty) {h n : Bytes} → h ≡ fault_head (code_of c) → n ≡ type_name t → h ++ (n ++ (10 ∷ [])) ≡ fault_line (code_fault c t) ++ (10 ∷ [])
+unfolding fault_line fault_text text shown shown_in
+code-line c t a b = ap₂ (λ (h n : Bytes). h ++ (n ++ (10 ∷ []))) a b ∙ elim c as (λ k. fault_head (code_of k) ++ (type_name t ++ (10 ∷ [])) ≡ fault_line (code_fault k t) ++ (10 ∷ [])) [ E2009 ↦ refl | E2010 ↦ refl | E2011 ↦ refl | E2013 ↦ refl ]
 
--- what the lines have behind `F,`
-abbrev CodeBody : Ty → ℕ → Type 0
-CodeBody t c = fault_text (code_fault c t) ≡ code_text c ++ type_name t
+pub in-line : (t u : Ty) {n m : Bytes} → n ≡ type_name t → m ≡ type_name u
+    → fault_head 2012 ++ (n ++ (44 ∷ (m ++ (10 ∷ [])))) ≡ fault_line (fault_2012 t u) ++ (10 ∷ [])
+unfolding fault_line fault_text text shown shown_in
+in-line t u a b =
+    ap₂ (λ (n m : Bytes). fault_head 2012 ++ (n ++ (44 ∷ (m ++ (10 ∷ []))))) a b
+    ∙ ap (λ (x : Bytes). fault_head 2012 ++ x) (sym (append_assoc (type_name t) (44 ∷ type_name u) (10 ∷ [])))
 
-pub code_body : (c : ℕ) (t : Ty) → IsCode c → fault_text (code_fault c t) ≡ code_text c ++ type_name t
-unfolding fault_text code_fault text shown shown_in
-code_body c t (inl e) = subst (CodeBody t) (sym e) refl
-code_body c t (inr (inl e)) = subst (CodeBody t) (sym e) refl
-code_body c t (inr (inr (inl e))) = subst (CodeBody t) (sym e) refl
-code_body c t (inr (inr (inr e))) = subst (CodeBody t) (sym e) refl
-
-pub in_body : (t u : Ty) → fault_text (fault_2012 t u) ≡ code_text 2012 ++ (type_name t ++ (44 ∷ type_name u))
-unfolding fault_text text shown shown_in
-in_body t u = refl
-
-pub call-body : (b : Builtin) (t : Ty) (s : ArgShape)
-    → fault_text (fault_5012 b t s) ≡ code_text 5012 ++ ((signature b).name ++ (44 ∷ (type_name t ++ (44 ∷ describe s))))
-unfolding fault_text text shown shown_in
-call-body b t s = refl
+pub call-line : (b : Builtin) (t : Ty) (s : ArgShape) {n m d : Bytes} → n ≡ (signature b).name → m ≡ type_name t → d ≡ describe s
+    → fault_head 5012 ++ (n ++ (44 ∷ (m ++ (44 ∷ (d ++ (10 ∷ [])))))) ≡ fault_line (fault_5012 b t s) ++ (10 ∷ [])
+unfolding fault_line fault_text text shown shown_in
+call-line b t s {n} {m} {d} x y z =
+    let last : Bytes = 44 ∷ describe s in
+    ap₂ (λ (n m : Bytes). fault_head 5012 ++ (n ++ (44 ∷ (m ++ (44 ∷ (d ++ (10 ∷ []))))))) x y
+    ∙ ap (λ (d : Bytes). fault_head 5012 ++ ((signature b).name ++ (44 ∷ (type_name t ++ (44 ∷ (d ++ (10 ∷ []))))))) z
+    ∙ ap (λ (x : Bytes). fault_head 5012 ++ x)
+    (ap (λ (x : Bytes). (signature b).name ++ (44 ∷ x)) (sym (append_assoc (type_name t) last (10 ∷ [])))
+    ∙ sym (append_assoc (signature b).name (44 ∷ (type_name t ++ last)) (10 ∷ [])))
 
 -- the one parameter
 pub only : {s p : ArgShape} → ◌≡◌ {A = List ArgShape} (s ∷ []) (p ∷ []) → s ≡ p
@@ -149,8 +114,9 @@ only e = cc
 type-name-short : (t : Ty) → length (type_name t) ≤ 12
 type-name-short t = (kind-name t).short
 
-pub name-end : (t : Ty) {o o' : Bytes} {f r : ℕ} → Appends (type_name t) o o' f r → r ≤ f + 12
-name-end t w = omega (arith, w.end, type-name-short t)
+-- the name of some kind is short
+pub kind-short : {k : ℕ} {n : Bytes} → SomeKind k → NamesKind k n → length n ≤ 12
+kind-short s h = omega (arith, ap length (h s.ty s.is), type-name-short s.ty)
 
 body-short : (f : Fault) → length (fault_text f) ≤ 51
 unfolding fault_text text
@@ -166,9 +132,6 @@ body-short (fault_5012 b t s) =
 line-short : (f : Fault) → length (fault_line f) ≤ 127
 unfolding fault_line
 line-short f = omega (arith, body-short f)
-
-pub fault-body : (f : Fault) {s l : Bytes} {k : ℕ} → fault_text f ≡ s → Appends s room l 0 k → Body (fault_text f) l k
-fault-body f e p = rw e (body p (omega (arith, body-short f, ap length e)))
 
 pub fault-short : (f : Fault) → length (faults_text (f ∷ [])) ≤ 128
 unfolding faults_text

@@ -1,5 +1,5 @@
 -- The lines of the report as the code writes them: appended to the output, what fits written, all counted.
-use Rattle.std.specs.Prelude.{◌≡◌, ◌⊎◌, List, [], ◌∷◌, ◌++◌, Bool, true, false, ℕ, ◌+◌, ◌≤◌, eqb, length}
+use Rattle.std.specs.Prelude.{◌≡◌, List, [], ◌∷◌, ◌++◌, Bool, ℕ, ◌+◌, ◌^◌, ◌≤◌, ◌<◌, length}
 use Rattle.std.proofs.lemmas.List.Edits.{sets}
 use Rattle.semantics.specs.Codes.{line_feed, comma}
 use Rattle.semantics.specs.Bytes.{Bytes, text, shown}
@@ -8,6 +8,8 @@ use Rattle.semantics.specs.Walk.{Fault, fault_2009, fault_2010, fault_2011, faul
 use Rattle.semantics.specs.Calls.{fault_line, top_line}
 use Rattle.ty.specs.Read.{kind_of}
 use Rattle.report.specs.declared.Tally.{Tally}
+use Rattle.report.specs.declared.TypeFault.{TypeFault}
+use Rattle.report.specs.declared.TypeFault.TheVariants.{E2009, E2010, E2011, E2013}
 
 -- the lines of some faults
 unfoldable pub faults_text : List Fault → Bytes
@@ -31,24 +33,24 @@ numbers_text s n m = s ++ (shown n ++ (comma ∷ (shown m ++ (line_feed ∷ []))
 abbrev pub end_text : ℕ → ℕ → Bytes
 end_text n m = numbers_text (text "end,") n m
 
--- a fault's code and a comma, which the line has behind `F,`
-abbrev pub code_text : ℕ → Bytes
-code_text c = shown c ++ (comma ∷ [])
+-- what the line of a fault of this code starts with
+abbrev pub fault_head : ℕ → Bytes
+fault_head c = text "F," ++ (shown c ++ (comma ∷ []))
 
 -- these bytes are behind what was filled, and no fault was counted
 pub record Appends (s : Bytes) (out out' : Bytes) (fill fill' : ℕ) : Type 0 where
   pub text : out' ≡ sets out fill s
   pub end : fill' ≡ fill + length s
 
--- a fault's body starts with its code, which is short
-pub record Starts (c : ℕ) (body body' : Bytes) (end : ℕ) : Type 0 where
-  pub appended : Appends (code_text c) body body' 0 end
-  pub short : end ≤ 5
-
 -- the same of a line of two numbers, which have at most 20 digits
 pub record NumbersLine (s : Bytes) (n m : ℕ) (out out' : Bytes) (fill fill' : ℕ) : Type 0 where
   pub appended : Appends (numbers_text s n m) out out' fill fill'
   pub short : fill' ≤ fill + length s + 42
+
+-- the counts can grow by one fault
+pub record HasRoom (t : Tally) : Type 0 where
+  pub fill : t.fill + 128 < 2 ^ 64
+  pub faults : t.faults + 1 < 2 ^ 64
 
 -- these faults were added
 pub record Adds (fs : List Fault) (out out' : Bytes) (t t' : Tally) : Type 0 where
@@ -56,17 +58,18 @@ pub record Adds (fs : List Fault) (out out' : Bytes) (t t' : Tally) : Type 0 whe
   pub end : t'.fill ≡ t.fill + length (faults_text fs)
   pub count : t'.faults ≡ t.faults + length fs
 
--- the fault of a code that tells one type
-unfoldable pub code_fault : ℕ → Ty → Fault
-code_fault c t =
-    elim (eqb c 2009) [ true ↦ fault_2009 t | false ↦ elim (eqb c 2010) [ true ↦ fault_2010 t | false ↦ elim (eqb c 2011) [ true ↦ fault_2011 t | false ↦ fault_2013 t ] ] ]
+-- the fault of a code that tells one type, and the code's number
+abbrev pub code_fault : TypeFault → Ty → Fault
+code_fault E2009 t = fault_2009 t
+code_fault E2010 t = fault_2010 t
+code_fault E2011 t = fault_2011 t
+code_fault E2013 t = fault_2013 t
 
-abbrev pub IsCode : ℕ → Type 0
-IsCode c = (c ≡ 2009) ⊎ ((c ≡ 2010) ⊎ ((c ≡ 2011) ⊎ (c ≡ 2013)))
-
--- a code of the six
-abbrev pub IsFaultCode : ℕ → Type 0
-IsFaultCode c = IsCode c ⊎ ((c ≡ 2012) ⊎ (c ≡ 5012))
+abbrev pub code_of : TypeFault → ℕ
+code_of E2009 = 2009
+code_of E2010 = 2010
+code_of E2011 = 2011
+code_of E2013 = 2013
 
 -- the answer for every type of this kind
 abbrev pub OpenKind : ℕ → Bool → Type 0

@@ -14,3 +14,4 @@ pub mod Fuel
 pub mod Named
 pub mod Split
 pub mod Reader
+pub mod Refusing

@@ -175,7 +175,10 @@ no_type_line = 8
 abbrev pub mismatched : ℕ
 mismatched = 9
 
--- what has not its size; a text that is no old type line; a store that is full; a count used up; a number that is not live
+-- a sheet that is too long; what has not its size; a text that is no old type line; a store that is full; a count used up; a number that is not live
+abbrev pub sheet_too_long : ℕ
+sheet_too_long = 1
+
 abbrev pub wrong_size : ℕ
 wrong_size = 2
 

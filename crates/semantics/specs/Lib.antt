@@ -1,5 +1,6 @@
 pub mod Limits
 pub mod Codes
+pub mod Refusals
 pub mod Bytes
 pub mod Ty
 pub mod Unify

@@ -6,11 +6,7 @@ mod refusals;
 ghost use Rattle.std.specs.Prelude.{◌≡◌};
 ghost use Rattle.semantics.specs.Limits.{sheet_limit, work_size, unify_output, name_limit, count_limit, variable_limit, bound_limit, signed_shift, depth_limit, type_limit, nesting_limit};
 
-pub use refusals::{
-    ACCEPTED, BADLY_WRITTEN, COUNT_USED_UP, MISMATCH, NO_OLD_LINE, NO_TYPE_LINE, NOT_LIVE,
-    OUT_OF_RANGE, OUTPUT_TOO_SHORT, SHEET_TOO_LONG, STORE_FULL, TOO_DEEP, TYPE_TOO_LARGE,
-    WRONG_SIZE,
-};
+pub use refusals::{Refusal, Refused};
 
 // Bytes of a sheet (cause 1).
 pub const SHEET_LIMIT: usize = 65535;

@@ -1,42 +1,62 @@
-// The numbers that the calls return: what an answer is refused for.
-// Accepted.
-pub const ACCEPTED: u32 = 0;
+// What a call refuses, and the number that it returns for it; 0 is what it returns where it accepts.
+ghost use Rattle.semantics.specs.Refusals.{NumberOf, number_of};
+ghost use Rattle.std.specs.Prelude.{◌≡◌};
 
-// A sheet of more bytes than there may be.
-pub const SHEET_TOO_LONG: u32 = 1;
+#[derive(Clone, Copy, Debug, PartialEq, Eq)]
+pub enum Refusal {
+    // A sheet of more bytes than there may be.
+    SheetTooLong,
+    // A work area or a store that has not its size; bytes that are no store.
+    WrongSize,
+    // A line that is badly written, not allowed where it stands, or missing.
+    BadlyWritten,
+    // A field outside its range.
+    OutOfRange,
+    // An expression for which no level is left.
+    TooDeep,
+    // A type of more bytes or nesting than there may be.
+    TypeTooLarge,
+    // An output that is too short.
+    OutputTooShort,
+    // A text that is no type line.
+    NoTypeLine,
+    // Two types that do not unify.
+    Mismatch,
+    // A text that is no old type line.
+    NoOldLine,
+    // A store with no room for a new type.
+    StoreFull,
+    // A number or a use that would pass the last one.
+    CountUsedUp,
+    // A number under which no type is live.
+    NotLive,
+}
 
-// A work area or a store that has not its size; bytes that are no store.
-pub const WRONG_SIZE: u32 = 2;
+impl From<Refusal> for u32 {
+    ghost from_gives = { NumberOf };
 
-// A line that is badly written, not allowed where it stands, or missing.
-pub const BADLY_WRITTEN: u32 = 3;
+    fn from(why: Refusal) -> u32 {
+        match why {
+            Refusal::SheetTooLong => 1,
+            Refusal::WrongSize => 2,
+            Refusal::BadlyWritten => 3,
+            Refusal::OutOfRange => 4,
+            Refusal::TooDeep => 5,
+            Refusal::TypeTooLarge => 6,
+            Refusal::OutputTooShort => 7,
+            Refusal::NoTypeLine => 8,
+            Refusal::Mismatch => 9,
+            Refusal::NoOldLine => 12,
+            Refusal::StoreFull => 13,
+            Refusal::CountUsedUp => 14,
+            Refusal::NotLive => 15,
+        }
+    }
+}
 
-// A field outside its range.
-pub const OUT_OF_RANGE: u32 = 4;
-
-// An expression for which no level is left.
-pub const TOO_DEEP: u32 = 5;
-
-// A type of more bytes or nesting than there may be.
-pub const TYPE_TOO_LARGE: u32 = 6;
-
-// An output that is too short.
-pub const OUTPUT_TOO_SHORT: u32 = 7;
-
-// A text that is no type line.
-pub const NO_TYPE_LINE: u32 = 8;
-
-// Two types that do not unify.
-pub const MISMATCH: u32 = 9;
-
-// A text that is no old type line.
-pub const NO_OLD_LINE: u32 = 12;
-
-// A store with no room for a new type.
-pub const STORE_FULL: u32 = 13;
-
-// A number or a use that would pass the last one.
-pub const COUNT_USED_UP: u32 = 14;
-
-// A number under which no type is live.
-pub const NOT_LIVE: u32 = 15;
+// What a call answers when it refuses, with the number that it returns beside it: a place, a line, or 0.
+#[derive(Clone, Copy, Debug, PartialEq, Eq)]
+pub struct Refused {
+    pub why: Refusal,
+    pub place: u64,
+}

@@ -1,4 +1,4 @@
-// Decimal digits without a division (RULES 10.1, ask 4): each digit by subtracting a power of ten from a table.
+// Decimal digits without a division (RULES 10.1): each digit by subtracting a power of ten from a table.
 ghost use Rattle.std.specs.Prelude.{◌≡◌, ◌+◌, ◌*◌, ◌/◌, ◌%◌, ◌≤◌, ◌<◌, ◌^◌, length};
 ghost use Rattle.std.proofs.lemmas.List.Edits.{sets};
 ghost use Rattle.semantics.specs.Bytes.{shown};
@@ -42,12 +42,10 @@ const MOST_BEHIND: usize = 19;
 fn digits_behind(n: u64) -> usize
     ensures { Behind n result }
 {
-    let mut i = 0;
-    while i < MOST_BEHIND {
+    for i in 0..MOST_BEHIND {
         if n < power(i + 1) {
             return i;
         }
-        i += 1;
     }
     MOST_BEHIND
 }
@@ -59,7 +57,7 @@ struct Digit {
     rest: u64,
 }
 
-// How often p, a power of ten, goes into m: by subtraction.
+// How often p, a power of ten, goes into m: by subtraction, where `/` and `%` would divide.
 fn digit_of(m: u64, p: u64) -> Digit
     requires { (0 < p) × (m < p * 10) }
     ensures { (result.digit ≡ m / p) × (result.rest ≡ m % p) × (result.digit < 10) }
@@ -78,14 +76,12 @@ pub fn append_decimal(out: &mut [u8], fill: usize, n: u64) -> usize
     requires { fill + 20 < 2 ^ 64 }
     ensures { (result ≡ fill + length (shown n)) × (out.new ≡ sets out.old fill (shown n)) × (result ≤ fill + 20) }
 {
-    let mut i = digits_behind(n);
     let mut m = n;
     let mut at = fill;
-    while i > 0 {
-        let d = digit_of(m, power(i));
+    for i in (0..digits_behind(n)).rev() {
+        let d = digit_of(m, power(i + 1));
         at = put(out, at, b'0' + d.digit);
         m = d.rest;
-        i -= 1;
     }
     put(out, at, b'0' + m as u8)
 }

@@ -17,12 +17,15 @@ use Rattle.semantics.proofs.Words.{holds, named, each, kids-each}
 use Rattle.hir.specs.Lines.{Met, all_met, meets, Ascends, no_binding, ascends}
 use Rattle.hir.specs.Check.{Laid}
 use Rattle.hir.specs.declared.valid.Outline.{Outline}
-use Rattle.hir.proofs.KidLaws.{both}
 use Rattle.hir.proofs.TopLaws.{plain-rule}
 use Rattle.hir.proofs.LinesLaws.{met-split, Inner, AllIn, none_in, one_in, inner-under, met-walk}
 use Rattle.tops.specs.Tops.{fronts, tops_for, top_of, zip_tops, out_tops}
 use Rattle.tops.specs.Standing.{Open, open_top, open_in, Standing, Skipped, Typed}
 use Rattle.tops.specs.Claims.{TopsInOrder}
+
+both : (a b : Bool) → a && b ≡ true → (a ≡ true) × (b ≡ true)
+both true b e = (refl, e)
+both false b e = cc
 
 -- ## Places and rules
 

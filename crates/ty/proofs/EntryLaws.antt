@@ -10,19 +10,18 @@ use borrow.Author.Tests.{lt-ltb, le-ltb, ltb-false}
 use lib.Dec.{ltb}
 use lib.ListN.{length, take, drop, set, length-append, length-take, length-set}
 use lib.Seq.{slice, sets, length-slice, length-sets, length-take-le, take-take, take_at, drop_at, drop-drop}
+use Rattle.std.specs.Prelude.{Option as StdOption, Some, None}
 use Rattle.semantics.specs.Bytes.{Bytes, lex, hex}
 use Rattle.semantics.specs.Ty.{Ty, t_map, Fields, ∅ᶠ, field, name_to, line_to, fields_to, line, too_large, set_field}
 use Rattle.semantics.proofs.Order.{lex-lt, lex-gt, lex-eq, Tri, lt, eq, gt, tri, set-lt, set-eq, set-gt}
 use Rattle.text.specs.Text.{rotated, Ends, order_of}
-use Rattle.text.specs.declared.Order.{Order}
-use Rattle.text.specs.declared.Order.TheVariants.{Less as Before, Same, More}
+use Rattle.std.specs.declared.cmp.Ordering.{Ordering as Order}
+use Rattle.std.specs.declared.cmp.Ordering.TheVariants.{Less as Before, Equal, Greater}
 use Rattle.text.proofs.Laws.{part_slice, slice-join, take-join, sets-append, sets-mid, sets-parts, take-sets, rotated-parts, length-rotated, take-rotated, slice-mid}
 use Rattle.ty.specs.Parts.{TypeAt, SomeType, TypeFrom, EndsAt}
 use Rattle.ty.specs.Made.{Made, made}
 use Rattle.ty.specs.Merging.{head_to, HeadAt, entry_to}
 use Rattle.ty.specs.Entry.{MapFront, Goes, Fronted, inserted_at, replaced_at, FrontOf, TestedAs}
-use Rattle.ty.specs.declared.Grown.{Grown}
-use Rattle.ty.specs.declared.Grown.TheVariants.{Len, TooLarge}
 use Rattle.ty.specs.declared.map.Spot.TheVariants.{New, Old}
 use Rattle.text.specs.Text.{index_of}
 use Rattle.text.proofs.Words.{ends}
@@ -36,14 +35,14 @@ use Rattle.ty.proofs.MergeLaws.{drop-part}
 -- ## The bytes that are moved
 
 -- the answer of a text that was made at the front
-pub fronted-over : (s s' l : Bytes) (n : ℕ) → length l ≡ n → 1024 < n → length s' ≡ length s → Fronted s s' l TooLarge
+pub fronted-over : (s s' l : Bytes) (n : ℕ) → length l ≡ n → 1024 < n → length s' ≡ length s → Fronted s s' l None
 fronted-over s s' l n e h long =
     record { answer = sym (ap (λ (b : Bool). made b (length l)) (lt-ltb 1024 (length l) (omega (arith, e, h)))); stands = λ w. absurd (omega (arith, e, h, w)); long = long }
 
-pub fronted-within : (s s' l : Bytes) (n : ℕ) → length l ≡ n → n ≤ 1024 → length s' ≡ length s → take n s' ≡ l → Fronted s s' l (Len n)
+pub fronted-within : (s s' l : Bytes) (n : ℕ) → length l ≡ n → n ≤ 1024 → length s' ≡ length s → take n s' ≡ l → Fronted s s' l (Some n)
 fronted-within s s' l n e h long w =
     record {
-      answer = sym (ap (λ (b : Bool). made b (length l)) (le-ltb 1024 (length l) (omega (arith, e, h))) ∙ ap Len e);
+      answer = sym (ap (λ (b : Bool). made b (length l)) (le-ltb 1024 (length l) (omega (arith, e, h))) ∙ ap Some e);
       stands = λ _. ap (λ (k : ℕ). take k s') e ∙ w;
       long = long;
     }
@@ -175,14 +174,14 @@ not-true : (b r : Bool) → r ≡ not b → r ≡ false → b ≡ true
 not-true true r e h = refl
 not-true false r e h = absurd (false≢true (sym h ∙ e))
 
-pub tested-fits : (n : ℕ) (t : Ty) (r : Bool) → r ≡ not (too_large t) → r ≡ true → Len n ≡ made (too_large t) n
+pub tested-fits : (n : ℕ) (t : Ty) (r : Bool) → r ≡ not (too_large t) → r ≡ true → Some n ≡ made (too_large t) n
 tested-fits n t r e h = sym (ap (λ (b : Bool). made b n) (not-false (too_large t) r e h))
 
-pub tested-large : (n : ℕ) (t : Ty) (r : Bool) → r ≡ not (too_large t) → r ≡ false → TooLarge ≡ made (too_large t) n
+pub tested-large : (n : ℕ) (t : Ty) (r : Bool) → r ≡ not (too_large t) → r ≡ false → None ≡ made (too_large t) n
 tested-large n t r e h = sym (ap (λ (b : Bool). made b n) (not-true (too_large t) r e h))
 
 -- a type line that was made at the front
-module _ (s s' l : Bytes) (u : Ty) (r : Grown) (is : l ≡ line u) (h : Fronted s s' l r) where
+module _ (s s' l : Bytes) (u : Ty) (r : StdOption ℕ) (is : l ≡ line u) (h : Fronted s s' l r) where
   at_front : length l ≤ 1024 → TypeAt s' 0 (length l) u
   at_front w = let p = h.stands w in record { ordered = omega arith; inside = omega (arith, ap length p, length-take (length l) s'); is = p ∙ is }
 
@@ -197,7 +196,7 @@ module _ (s s' l : Bytes) (u : Ty) (r : Grown) (is : l ≡ line u) (h : Fronted 
   unfolding too_large
   long-large e = rw (← is, e)
 
-  pub fronted-made : (r' : Grown) → TestedAs s' r r' → Made s s' 0 u r'
+  pub fronted-made : (r' : StdOption ℕ) → TestedAs s' r r' → Made s s' 0 u r'
   fronted-made r' = go (ltb 1024 (length l)) refl h.answer
     where
       long : length l ≡ length (line u)
@@ -417,9 +416,9 @@ module _ (s x : Bytes) (len : ℕ) (fs : Fields) (n : Bytes) (q : ℕ) (front : 
             go (gt w) z = absurd (let b : ◌≡◌ {A = ℕ} 0 1 = cc (lex-gt w) in omega arith)
 
         -- it has the name: its value is replaced
-        pub goes-old : o ≡ Same → Goes (line (t_map fs)) fs n (Old (c + 1) e)
+        pub goes-old : o ≡ Equal → Goes (line (t_map fs)) fs n (Old (c + 1) e)
         unfolding entry_to
-        goes-old t = go (tri k.name n) (met-order o Same compared t)
+        goes-old t = go (tri k.name n) (met-order o Equal compared t)
           where
             name : Bytes
             name = name_to k.name []
@@ -462,9 +461,9 @@ module _ (s x : Bytes) (len : ℕ) (fs : Fields) (n : Bytes) (q : ℕ) (front : 
             go (gt w) z = absurd (let b : ◌≡◌ {A = ℕ} 0 1 = cc (lex-gt w) in omega arith)
 
         -- it comes behind: the new entry goes before it
-        pub goes-new : o ≡ More → Goes (line (t_map fs)) fs n (New q)
+        pub goes-new : o ≡ Greater → Goes (line (t_map fs)) fs n (New q)
         unfolding entry_to
-        goes-new t = go (tri k.name n) (met-order o More compared t)
+        goes-new t = go (tri k.name n) (met-order o Greater compared t)
           where
             left : Bytes
             left = entry_to k.name k.ty ++ fields_to k.rest []
@@ -524,8 +523,8 @@ module _ (s x : Bytes) (len : ℕ) (fs : Fields) (n : Bytes) (q : ℕ) (front : 
         pub value_on : o ≡ Before → Looking fs n e
         value_on = goes_on s x len fs n q front k c found e found_at o compared
 
-        pub value-old : o ≡ Same → Goes (line (t_map fs)) fs n (Old v e)
+        pub value-old : o ≡ Equal → Goes (line (t_map fs)) fs n (Old v e)
         value-old t = rw same_place (goes-old s x len fs n q front k c found e found_at o compared t)
 
-        pub value-new : o ≡ More → Goes (line (t_map fs)) fs n (New q)
+        pub value-new : o ≡ Greater → Goes (line (t_map fs)) fs n (New q)
         value-new = goes-new s x len fs n q front k c found e found_at o compared

@@ -11,6 +11,8 @@ use lib.Dec.{eqb, ltb}
 use lib.ListN.{length, drop, get_or, length-drop, get_or-eq_default}
 use lib.Seq.{slice, drop-cons}
 use borrow.Author.Tests.{eqb-true, ltb-true, ltb-false, eq-eqb, ne_eqb, lt-ltb}
+use Rattle.std.specs.Prelude.{Some, None}
+use Rattle.std.proofs.lemmas.Option.{none-some, same_Some}
 use Rattle.text.specs.Text.{index_of}
 use Rattle.text.specs.Text.{is_found}
 use Rattle.text.proofs.Laws.{drop-join}
@@ -23,6 +25,8 @@ use Rattle.semantics.proofs.Split.{name_f}
 use Rattle.semantics.proofs.Reader.{read_name_lem, name-sound}
 use Rattle.semantics.proofs.Regular.{Ascends}
 use Rattle.ty.specs.Parts.{TypeFrom}
+use Rattle.ty.specs.declared.end.Content.{Content}
+use Rattle.ty.specs.declared.end.Content.TheVariants.{Nothing, Labels, RelationshipName, Types}
 use Rattle.ty.specs.Skip.{next_field}
 use Rattle.ty.specs.Read.{field_at, letter_at, kind_of, content_of, name_in, in_order}
 use Rattle.ty.proofs.Lines.{special, letter-away, name-to, comma-at, hex-bytes}
@@ -56,17 +60,17 @@ pub field_is : (s : Bytes) (q b : ℕ) (x : Bytes) → drop q s ≡ b ∷ 44 ∷
 unfolding field_at
 field_is s q b x e = rw (eq-eqb (get_or s q 0) b (byte_at s q (44 ∷ x) b e), eq-eqb (get_or s (q + 1) 0) 44 (byte_past s q (b ∷ []) x 44 e))
 
-pub letter-is : (s : Bytes) (q b : ℕ) (x : Bytes) → drop q s ≡ b ∷ 44 ∷ x → letter_at s q ≡ b
+pub letter-is : (s : Bytes) (q b : ℕ) (x : Bytes) → drop q s ≡ b ∷ 44 ∷ x → letter_at s q ≡ Some b
 unfolding letter_at
-letter-is s q b x e = rw (eq-eqb (get_or s (q + 1) 0) 44 (byte_past s q (b ∷ []) x 44 e)) (byte_at s q (44 ∷ x) b e)
+letter-is s q b x e = rw (eq-eqb (get_or s (q + 1) 0) 44 (byte_past s q (b ∷ []) x 44 e)) (ap Some (byte_at s q (44 ∷ x) b e))
 
-pub letter_at_lem : (s : Bytes) (q k : ℕ) → k ≡ letter_at s q → 0 < k → (drop q s ≡ k ∷ 44 ∷ drop (q + 2) s) × (q + 2 ≤ length s)
+pub letter_at_lem : (s : Bytes) (q k : ℕ) → letter_at s q ≡ Some k → (drop q s ≡ k ∷ 44 ∷ drop (q + 2) s) × (q + 2 ≤ length s)
 unfolding letter_at
-letter_at_lem s q k e h = go (eqb (get_or s (q + 1) 0) 44) refl e
+letter_at_lem s q k e = go (eqb (get_or s (q + 1) 0) 44) refl e
   where
-    go : (b : Bool) → eqb (get_or s (q + 1) 0) 44 ≡ b → k ≡ cond b (get_or s q 0) 0 → (drop q s ≡ k ∷ 44 ∷ drop (q + 2) s) × (q + 2 ≤ length s)
-    go true f g = rw g (two s q (eqb-true (get_or s (q + 1) 0) 44 f))
-    go false f g = absurd (omega arith)
+    go : (b : Bool) → eqb (get_or s (q + 1) 0) 44 ≡ b → cond b (Some (get_or s q 0)) None ≡ Some k → (drop q s ≡ k ∷ 44 ∷ drop (q + 2) s) × (q + 2 ≤ length s)
+    go true f g = rw (same_Some (get_or s q 0) k g) at (two s q (eqb-true (get_or s (q + 1) 0) 44 f))
+    go false f g = absurd (none-some k g)
 
 -- ## The letter of a type and what stands behind it
 
@@ -87,41 +91,32 @@ line-opens (t_node ls) r = refl
 line-opens (t_relationship n) r = refl
 line-opens (t_union ts) r = refl
 
-unfoldable pub content_t : Ty → ℕ
-content_t (base b) = 1
-content_t (t_list t) = 4
-content_t (t_map fs) = 4
-content_t (t_node ls) = 2
-content_t (t_relationship n) = 3
-content_t (t_union ts) = 4
+unfoldable pub content_t : Ty → Content
+content_t (base b) = Nothing
+content_t (t_list t) = Types
+content_t (t_map fs) = Types
+content_t (t_node ls) = Labels
+content_t (t_relationship n) = RelationshipName
+content_t (t_union ts) = Types
 
-pub content-kind : (t : Ty) → content_of (kind_of t) ≡ content_t t
+pub content-kind : (t : Ty) → content_of (kind_of t) ≡ Some (content_t t)
 unfolding content_of kind_of content_t letter base_in
-content-kind (base b) = elim b as (λ k. content_of (kind_of (base k)) ≡ content_t (base k)) [ t_any ↦ refl | t_null ↦ refl | t_bool ↦ refl | t_int ↦ refl | t_float ↦ refl | t_num ↦ refl | t_string ↦ refl | t_date ↦ refl | t_datetime ↦ refl | t_path ↦ refl | t_unknown ↦ refl ]
+content-kind (base b) = elim b as (λ k. content_of (kind_of (base k)) ≡ Some (content_t (base k))) [ t_any ↦ refl | t_null ↦ refl | t_bool ↦ refl | t_int ↦ refl | t_float ↦ refl | t_num ↦ refl | t_string ↦ refl | t_date ↦ refl | t_datetime ↦ refl | t_path ↦ refl | t_unknown ↦ refl ]
 content-kind (t_list t) = refl
 content-kind (t_map fs) = refl
 content-kind (t_node ls) = refl
 content-kind (t_relationship n) = refl
 content-kind (t_union ts) = refl
 
-pub content-pos : (t : Ty) → 1 ≤ content_t t
-unfolding content_t
-content-pos (base b) = omega arith
-content-pos (t_list t) = omega arith
-content-pos (t_map fs) = omega arith
-content-pos (t_node ls) = omega arith
-content-pos (t_relationship n) = omega arith
-content-pos (t_union ts) = omega arith
-
 -- the letter of the type that stands at a place
-pub type-letter : (s : Bytes) (at : ℕ) (t : Ty) (r : Bytes) → drop at s ≡ line_to t r → letter_at s at ≡ kind_of t
+pub type-letter : (s : Bytes) (at : ℕ) (t : Ty) (r : Bytes) → drop at s ≡ line_to t r → letter_at s at ≡ Some (kind_of t)
 type-letter s at t r e = letter-is s at (kind_of t) (inside_to t r) (e ∙ line-opens t r)
 
 pub type-byte : (s : Bytes) (at : ℕ) (t : Ty) (r : Bytes) → drop at s ≡ line_to t r → get_or s at 0 ≡ kind_of t
 type-byte s at t r e = byte_at s at (44 ∷ inside_to t r) (kind_of t) (e ∙ line-opens t r)
 
-pub type-content : (s : Bytes) (at : ℕ) (t : Ty) (r : Bytes) → drop at s ≡ line_to t r → content_of (letter_at s at) ≡ content_t t
-type-content s at t r e = ap content_of (type-letter s at t r e) ∙ content-kind t
+pub type-content : (s : Bytes) (at k : ℕ) → letter_at s at ≡ Some k → (t : Ty) (r : Bytes) → drop at s ≡ line_to t r → content_of k ≡ Some (content_t t)
+type-content s at k z t r e = ap content_of (same_Some k (kind_of t) (sym z ∙ type-letter s at t r e)) ∙ content-kind t
 
 -- a union is told by its letter
 pub union-letter : (t : Ty) → is_union t ≡ false → kind_of t ≡ 79 → ⊥
@@ -265,13 +260,9 @@ and_no false b h = refl
 no-comma : (s : Bytes) (q : ℕ) → length s ≤ q + 1 → eqb (get_or s (q + 1) 0) 44 ≡ false
 no-comma s q h = ne_eqb (get_or s (q + 1) 0) 44 (λ e. omega (arith, get_or-eq_default s 0 h))
 
-pub field_past : (s : Bytes) (q b : ℕ) → length s ≤ q + 1 → false ≡ field_at s q b
-unfolding field_at
-field_past s q b h = sym (and_no (eqb (get_or s q 0) b) (eqb (get_or s (q + 1) 0) 44) (no-comma s q h))
-
-pub letter-past : (s : Bytes) (q : ℕ) → length s ≤ q + 1 → 0 ≡ letter_at s q
+pub letter_past : (s : Bytes) (q : ℕ) → length s ≤ q + 1 → letter_at s q ≡ None
 unfolding letter_at
-letter-past s q h = rw (no-comma s q h)
+letter_past s q h = rw (no-comma s q h)
 
 base-no : (k : ℕ) (b : Base) (bs : List Base) → (k ≡ letter b → ⊥) → base_in k bs ≡ none → base_in k (b ∷ bs) ≡ none
 unfolding base_in
@@ -281,34 +272,21 @@ base-end : (k : ℕ) → base_in k [] ≡ none
 unfolding base_in
 base-end k = refl
 
-pub no-content : (k : ℕ) → (k ≡ 65 → ⊥) → (k ≡ 66 → ⊥) → (k ≡ 67 → ⊥) → (k ≡ 68 → ⊥) → (k ≡ 69 → ⊥) → (k ≡ 70 → ⊥) → (k ≡ 71 → ⊥) → (k ≡ 72 → ⊥) → (k ≡ 73 → ⊥) → (k ≡ 74 → ⊥)
-    → (k ≡ 75 → ⊥) → (k ≡ 76 → ⊥) → (k ≡ 77 → ⊥) → (k ≡ 78 → ⊥) → (k ≡ 79 → ⊥) → (k ≡ 80 → ⊥) → 0 ≡ content_of k
+pub no_content : (k : ℕ) → (k ≡ 65 → ⊥) → (k ≡ 66 → ⊥) → (k ≡ 67 → ⊥) → (k ≡ 68 → ⊥) → (k ≡ 69 → ⊥) → (k ≡ 70 → ⊥) → (k ≡ 71 → ⊥) → (k ≡ 72 → ⊥) → (k ≡ 73 → ⊥) → (k ≡ 74 → ⊥)
+    → (k ≡ 75 → ⊥) → (k ≡ 76 → ⊥) → (k ≡ 77 → ⊥) → (k ≡ 78 → ⊥) → (k ≡ 79 → ⊥) → (k ≡ 80 → ⊥) → None ≡ content_of k
 unfolding content_of letter
-no-content k a b c d e f g h i j l m n o p q =
+no_content k a b c d e f g h i j l m n o p q =
     let none_in : base_in k bases ≡ none = base-no k t_any _ a (base-no k t_null _ b (base-no k t_bool _ c (base-no k t_int _ d (base-no k t_float _ e (base-no k t_num _ f (base-no k t_string _ g (base-no k t_date _ h (base-no k t_datetime _ i (base-no k t_path _ o (base-no k t_unknown _ q (base-end k))))))))))) in
     rw (ne_eqb k 74 j, ne_eqb k 75 l, ne_eqb k 76 m, ne_eqb k 77 n, ne_eqb k 79 p, none_in)
 
-pub content-most : (k : ℕ) → content_of k ≤ 4
-unfolding content_of
-content-most k = go (eqb k 74) (eqb k 75) (eqb k 76) (eqb k 77) (eqb k 79) (is_found (base_in k bases))
-  where
-    go : (p q r s t u : Bool) → cond p 4 (cond q 4 (cond r 2 (cond s 3 (cond t 4 (cond u 1 0))))) ≤ 4
-    go true q r s t u = omega arith
-    go false true r s t u = omega arith
-    go false false true s t u = omega arith
-    go false false false true t u = omega arith
-    go false false false false true u = omega arith
-    go false false false false false true = omega arith
-    go false false false false false false = omega arith
-
-pub flat-nesting : (t : Ty) → content_t t < 4 → nesting t ≡ 1
+pub flat-nesting : (t : Ty) → (content_t t ≡ Types → ⊥) → nesting t ≡ 1
 unfolding content_t nesting
 flat-nesting (base b) h = refl
-flat-nesting (t_list t) h = absurd (omega arith)
-flat-nesting (t_map fs) h = absurd (omega arith)
+flat-nesting (t_list t) h = absurd (h refl)
+flat-nesting (t_map fs) h = absurd (h refl)
 flat-nesting (t_node ls) h = refl
 flat-nesting (t_relationship n) h = refl
-flat-nesting (t_union ts) h = absurd (omega arith)
+flat-nesting (t_union ts) h = absurd (h refl)
 
 -- the letter of a type and its comma
 pub type-two : (s : Bytes) (at : ℕ) → TypeFrom s at → (drop at s ≡ get_or s at 0 ∷ 44 ∷ drop (at + 2) s) × (at + 2 ≤ length s)

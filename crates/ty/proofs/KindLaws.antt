@@ -4,14 +4,14 @@ use native.Mathlib.Omega.{arith}
 use mathlib.Core.Path.{◌≡◌, refl, sym, ap, ◌∙◌}
 use mathlib.Core.List.{[]}
 use lib.ListN.{length, get_or}
-use lib.Seq.{slice-cons, length-slice, sets}
+use lib.Seq.{slice-cons, length-slice}
 use Rattle.semantics.specs.Bytes.{Bytes, text}
 use Rattle.semantics.specs.Ty.{Base, t_any, t_null, t_bool, t_int, t_float, t_num, t_string, t_date, t_datetime, t_path, t_unknown, Ty, base, t_list, t_map, t_node, t_relationship, t_union, letter, line}
 use Rattle.semantics.specs.Calls.{type_name}
 use Rattle.semantics.proofs.Order.{head-eq}
 use Rattle.ty.specs.Parts.{TypeAt}
 use Rattle.ty.specs.Read.{kind_of}
-use Rattle.ty.specs.Kind.{name_of_kind, NameWritten}
+use Rattle.ty.specs.Kind.{name_of_kind, NamesKind}
 use Rattle.ty.proofs.Fields.{line-opens}
 
 pub two_at : (s : Bytes) (a e : ℕ) (t : Ty) → TypeAt s a e t → a + 2 ≤ e
@@ -54,8 +54,6 @@ kind-name (t_node ls) = record { low = omega arith; high = omega arith; is = ref
 kind-name (t_relationship n) = record { low = omega arith; high = omega arith; is = refl; short = omega arith }
 kind-name (t_union ts) = record { low = omega arith; high = omega arith; is = refl; short = omega arith }
 
--- what was written for a letter is the name of each type of that kind
-pub name-written : (s s' : Bytes) (n r k l : ℕ) → k ≡ l → (r ≡ n + length (name_of_kind l)) × (s' ≡ sets s n (name_of_kind l)) → NameWritten s s' n k r
-name-written s s' n r k l p w t e =
-    let q : name_of_kind l ≡ type_name t = ap name_of_kind (sym (e ∙ p)) ∙ (kind-name t).is in
-    (w.0 ∙ ap (λ (x : Bytes). n + length x) q, w.1 ∙ ap (λ (x : Bytes). sets s n x) q)
+-- the name of a letter is that of each type of that kind
+pub names_kind : {k : ℕ} (l : ℕ) → k ≡ l → NamesKind k (name_of_kind l)
+names_kind l e t h = ap name_of_kind (sym (h ∙ e)) ∙ (kind-name t).is

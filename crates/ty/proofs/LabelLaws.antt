@@ -9,17 +9,20 @@ use borrow.Author.Tests.{ltb-false}
 use lib.Dec.{ltb}
 use lib.ListN.{length, take, drop}
 use lib.Seq.{slice, sets, length-sets}
-use Rattle.semantics.specs.Bytes.{Bytes}
+use Rattle.std.specs.Prelude.{Option as StdOption, Some, None}
+use Rattle.std.proofs.lemmas.Option.{none-some, same_Some}
+use Rattle.semantics.specs.Bytes.{Bytes, lex}
 use Rattle.semantics.specs.Ty.{Ty, t_node, name_to, names_to, labels_to, line_to, line, nesting, too_large, insert_name, insert_names}
 use Rattle.semantics.proofs.Order.{Less, less-trans, lex-lt, lex-gt, lex-eq, Tri, lt, eq, gt, tri}
 use Rattle.semantics.proofs.Regular.{Above, Ascends, ascends-sound}
 use Rattle.text.proofs.Laws.{copied, take_below}
-use Rattle.ty.specs.declared.Grown.{Grown}
 use Rattle.ty.specs.declared.merging.Merge.{Merge}
+use Rattle.ty.specs.declared.merging.Side.{Side}
+use Rattle.ty.specs.declared.merging.Side.TheVariants.{First, Second, Both}
 use Rattle.ty.specs.Made.{Made, made}
-use Rattle.ty.specs.Merging.{Kept, head_to, HeadAt, SomeHead, next_of, NextIs, SomeName, NameLong, kept_of, kept_text, taken_at, moved, Taking, closed_of, closed_text, LabelsAt, SomeLabels}
+use Rattle.ty.specs.Merging.{Kept, head_to, HeadAt, SomeHead, next_by, next_of, NextIs, SomeName, NameLong, kept_of, kept_text, taken_at, moved, Taking, closed_of, closed_text, LabelsAt, SomeLabels}
 use Rattle.ty.proofs.NameLaws.{name-append, name-long}
-use Rattle.ty.proofs.MergeLaws.{kept-first, split-part, drop-part, part_same, kept_small, kept_more, kept-below, kept-long, Closed, closed}
+use Rattle.ty.proofs.MergeLaws.{kept-first, split-part, drop-part, part_same, few-kept, kept_more, kept-below, kept-long, Closed, closed}
 
 -- ## Insertion into what comes later
 
@@ -93,7 +96,7 @@ pub record Turn (s : Bytes) (m : Merge) (to ae be : ℕ) (whole : Bytes) : Type 
   pub is : acc ++ names_to (insert_names ks ls) [] ≡ whole
   pub ascends : Ascends ks
 
-abbrev pub Next : {s : Bytes} {m : Merge} {to ae be : ℕ} {whole : Bytes} → Turn s m to ae be whole → ℕ → Type 0
+abbrev pub Next : {s : Bytes} {m : Merge} {to ae be : ℕ} {whole : Bytes} → Turn s m to ae be whole → StdOption Side → Type 0
 Next t x = x ≡ next_of (first_of t.ls) (first_of t.ks)
 
 pub first_head : {s : Bytes} {m : Merge} {to ae be : ℕ} {whole : Bytes} (t : Turn s m to ae be whole) → HeadAt s m.p (first_of t.ls)
@@ -103,38 +106,38 @@ pub second_head : {s : Bytes} {m : Merge} {to ae be : ℕ} {whole : Bytes} (t : 
 second_head {s} {m} {to} {ae} {be} t = names-head s m.q be t.ks t.q_in t.second
 
 -- what a turn takes: the name n with its comma, of the first list, of the second, or of both
-pub data Takes (s : Bytes) (m : Merge) (to ae be : ℕ) (whole : Bytes) : ℕ → Type 0 where
+pub data Takes (s : Bytes) (m : Merge) (to ae be : ℕ) (whole : Bytes) : Side → Type 0 where
   left : (acc n : Bytes) (ls ks : List Bytes) → slice m.p ae s ≡ name_to n [] ++ names_to ls [] → slice m.q be s ≡ names_to ks []
-      → Kept s to m.n acc → acc ++ names_to (n ∷ insert_names ks ls) [] ≡ whole → Ascends ks → Takes s m to ae be whole 0
+      → Kept s to m.n acc → acc ++ names_to (n ∷ insert_names ks ls) [] ≡ whole → Ascends ks → Takes s m to ae be whole First
   right : (acc n : Bytes) (ls ks : List Bytes) → slice m.p ae s ≡ names_to ls [] → slice m.q be s ≡ name_to n [] ++ names_to ks []
-      → Kept s to m.n acc → acc ++ names_to (n ∷ insert_names ks ls) [] ≡ whole → Ascends ks → Takes s m to ae be whole 1
+      → Kept s to m.n acc → acc ++ names_to (n ∷ insert_names ks ls) [] ≡ whole → Ascends ks → Takes s m to ae be whole Second
   both : (acc n : Bytes) (ls ks : List Bytes) → slice m.p ae s ≡ name_to n [] ++ names_to ls [] → slice m.q be s ≡ name_to n [] ++ names_to ks []
-      → Kept s to m.n acc → acc ++ names_to (n ∷ insert_names ks ls) [] ≡ whole → Ascends ks → Takes s m to ae be whole 2
+      → Kept s to m.n acc → acc ++ names_to (n ∷ insert_names ks ls) [] ≡ whole → Ascends ks → Takes s m to ae be whole Both
 
-pub takes : {s : Bytes} {m : Merge} {to ae be : ℕ} {whole : Bytes} (x : ℕ) (t : Turn s m to ae be whole) → Next t x → x < 3 → Takes s m to ae be whole x
+pub takes : {s : Bytes} {m : Merge} {to ae be : ℕ} {whole : Bytes} (x : Side) (t : Turn s m to ae be whole) → Next t (Some x) → Takes s m to ae be whole x
 unfolding next_of
-takes {s} {m} {to} {ae} {be} {whole} x t e h = go t.ls t.ks t.first t.second t.is t.ascends e
+takes {s} {m} {to} {ae} {be} {whole} x t e = go t.ls t.ks t.first t.second t.is t.ascends e
   where
     go : (ls ks : List Bytes) → slice m.p ae s ≡ names_to ls [] → slice m.q be s ≡ names_to ks [] → t.acc ++ names_to (insert_names ks ls) [] ≡ whole → Ascends ks
-        → x ≡ next_of (first_of ls) (first_of ks) → Takes s m to ae be whole x
-    go [] [] f g i a q = absurd (omega (arith, q, h))
+        → Some x ≡ next_of (first_of ls) (first_of ks) → Takes s m to ae be whole x
+    go [] [] f g i a q = absurd (none-some x (sym q))
     go [] (k ∷ ks) f g i a q =
-        rw q (right t.acc k [] ks f (g ∙ names-split k ks) t.kept (ap (λ (r : List Bytes). t.acc ++ names_to r []) (sym (insert-second k ks [] a tt)) ∙ i) a.1)
-    go (l ∷ ls) [] f g i a q = rw q (left t.acc l ls [] (f ∙ names-split l ls) g t.kept (unfold insert_names in i) tt)
+        rw (same_Some x Second q) (right t.acc k [] ks f (g ∙ names-split k ks) t.kept (ap (λ (r : List Bytes). t.acc ++ names_to r []) (sym (insert-second k ks [] a tt)) ∙ i) a.1)
+    go (l ∷ ls) [] f g i a q = rw (same_Some x First q) (left t.acc l ls [] (f ∙ names-split l ls) g t.kept (unfold insert_names in i) tt)
     go (l ∷ ls) (k ∷ ks) f g i a q = by (tri l k)
       where
         by : Tri l k → Takes s m to ae be whole x
         by (lt w) =
-            let z : x ≡ 0 = q ∙ rw (lex-lt w) in
+            let z : x ≡ First = same_Some x First (q ∙ rw (lex-lt w)) in
             rw z
             (left t.acc l ls (k ∷ ks) (f ∙ names-split l ls) g t.kept (ap (λ (r : List Bytes). t.acc ++ names_to r []) (sym (insert-above (k ∷ ks) l ls w a)) ∙ i) a)
         by (eq w) =
-            let z : x ≡ 2 = q ∙ rw (w, lex-eq k) in
+            let z : x ≡ Both = same_Some x Both (q ∙ rw (w, lex-eq k)) in
             rw z
             (both t.acc k ls ks (f ∙ names-split l ls ∙ ap (λ (n : Bytes). name_to n [] ++ names_to ls []) w) (g ∙ names-split k ks) t.kept
             (ap (λ (r : List Bytes). t.acc ++ names_to r []) (sym (insert-both k ks ls a) ∙ ap (λ (n : Bytes). insert_names (k ∷ ks) (n ∷ ls)) (sym w)) ∙ i) a.1)
         by (gt w) =
-            let z : x ≡ 1 = q ∙ rw (lex-gt w) in
+            let z : x ≡ Second = same_Some x Second (q ∙ rw (lex-gt w)) in
             rw z
             (right t.acc k (l ∷ ls) ks f (g ∙ names-split k ks) t.kept (ap (λ (r : List Bytes). t.acc ++ names_to r []) (sym (insert-second k ks (l ∷ ls) a w)) ∙ i) a.1)
 
@@ -160,7 +163,7 @@ next-turn s m to ae be whole from k p' q' acc n ls ks room h l e pi qi pb qb f g
     }
 
 -- what the code needs to know of a turn
-pub record Step (s : Bytes) (m : Merge) (to ae be : ℕ) (whole : Bytes) (x : ℕ) : Type 0 where
+pub record Step (s : Bytes) (m : Merge) (to ae be : ℕ) (whole : Bytes) (x : Side) : Type 0 where
   pub name : Bytes
   pub at : HeadAt s (taken_at m x) (some name)
   pub taking : (k : ℕ) → k ≡ length name + 1 → Taking s m x k to
@@ -174,7 +177,7 @@ name-head : (s : Bytes) (p e : ℕ) (n r : Bytes) → p ≤ e → slice p e s �
 unfolding head_to
 name-head s p e n r h q = record { rest = r ++ drop e s; is = drop-part s p e (name_to n [] ++ r) h q ∙ append_assoc (name_to n []) r (drop e s) ∙ name-append n [] (r ++ drop e s) }
 
-stepped : (s : Bytes) (m : Merge) (to ae be : ℕ) (whole : Bytes) (x : ℕ) → to + 1024 ≤ length s → m.p ≤ ae → m.q ≤ be → ae ≤ to → be ≤ to
+stepped : (s : Bytes) (m : Merge) (to ae be : ℕ) (whole : Bytes) (x : Side) → to + 1024 ≤ length s → m.p ≤ ae → m.q ≤ be → ae ≤ to → be ≤ to
     → Takes s m to ae be whole x → Step s m to ae be whole x
 unfolding taken_at moved
 stepped s m to ae be whole x room pi qi pb qb (left acc n ls ks f g h i a) =
@@ -183,7 +186,7 @@ stepped s m to ae be whole x room pi qi pb qb (left acc n ls ks f g h i a) =
     record {
       name = n;
       at = name-head s m.p ae n (names_to ls []) pi f;
-      taking = λ k e. record { first = λ _. omega arith; second = λ z. absurd (z refl); room = room; kept = kept_small s to m.n acc h };
+      taking = λ k e. record { first = λ _. omega arith; second = λ z. absurd (z refl); room = room; few = few-kept s to m.n acc h };
       less = λ k e. omega arith;
       turn = λ k e. let q : k ≡ length (name_to n []) = e ∙ sym l in
           next-turn s m to ae be whole m.p k (m.p + k) m.q acc n ls ks room h q
@@ -195,7 +198,7 @@ stepped s m to ae be whole x room pi qi pb qb (right acc n ls ks f g h i a) =
     record {
       name = n;
       at = name-head s m.q be n (names_to ks []) qi g;
-      taking = λ k e. record { first = λ z. absurd (z refl); second = λ _. omega arith; room = room; kept = kept_small s to m.n acc h };
+      taking = λ k e. record { first = λ z. absurd (z refl); second = λ _. omega arith; room = room; few = few-kept s to m.n acc h };
       less = λ k e. omega arith;
       turn = λ k e. let q : k ≡ length (name_to n []) = e ∙ sym l in
           next-turn s m to ae be whole m.q k m.p (m.q + k) acc n ls ks room h q
@@ -208,7 +211,7 @@ stepped s m to ae be whole x room pi qi pb qb (both acc n ls ks f g h i a) =
     record {
       name = n;
       at = name-head s m.p ae n (names_to ls []) pi f;
-      taking = λ k e. record { first = λ _. omega arith; second = λ _. omega arith; room = room; kept = kept_small s to m.n acc h };
+      taking = λ k e. record { first = λ _. omega arith; second = λ _. omega arith; room = room; few = few-kept s to m.n acc h };
       less = λ k e. omega arith;
       turn = λ k e. let q : k ≡ length (name_to n []) = e ∙ sym l in
           next-turn s m to ae be whole m.p k (m.p + k) (m.q + k) acc n ls ks room h q
@@ -216,19 +219,19 @@ stepped s m to ae be whole x room pi qi pb qb (both acc n ls ks f g h i a) =
           (ap (λ (j : ℕ). slice (m.q + j) be s) q ∙ rest') i a;
     }
 
-pub step : {s : Bytes} {m : Merge} {to ae be : ℕ} {whole : Bytes} (x : ℕ) (t : Turn s m to ae be whole) → Next t x → x < 3 → to + 1024 ≤ length s → Step s m to ae be whole x
-step {s} {m} {to} {ae} {be} {whole} x t e h room = stepped s m to ae be whole x room t.p_in t.q_in t.p_below t.q_below (takes x t e h)
+pub step : {s : Bytes} {m : Merge} {to ae be : ℕ} {whole : Bytes} (x : Side) (t : Turn s m to ae be whole) → Next t (Some x) → to + 1024 ≤ length s → Step s m to ae be whole x
+step {s} {m} {to} {ae} {be} {whole} x t e room = stepped s m to ae be whole x room t.p_in t.q_in t.p_below t.q_below (takes x t e)
 
 -- ## The loop
 
-pub record LabelsInv (s₀ : Bytes) (a b to : ℕ) (s : Bytes) (m : Merge) (x : ℕ) : Type 0 where
+pub record LabelsInv (s₀ : Bytes) (a b to : ℕ) (s : Bytes) (m : Merge) : Type 0 where
   pub left : SomeLabels s₀ a to
   pub right : SomeLabels s₀ b to
   pub room : to + 1024 ≤ length s
   pub below : take to s ≡ take to s₀
   pub long : length s ≡ length s₀
   pub going : (ae be : ℕ) (ls ks : List Bytes) → LabelsAt s₀ a ae to ls → LabelsAt s₀ b be to ks
-      → (t : Turn s m to ae be (line (t_node (some (insert_names ks (insert_names ls [])))))) × Next t x
+      → Turn s m to ae be (line (t_node (some (insert_names ks (insert_names ls [])))))
 
 -- node types below `to` stay
 labels-same : (s s' : Bytes) (a e to : ℕ) (ls : List Bytes) → take to s' ≡ take to s → length s' ≡ length s → LabelsAt s a e to ls → LabelsAt s' a e to ls
@@ -256,7 +259,7 @@ module _ (s s₀ : Bytes) (a b to : ℕ) (room : to + 1024 ≤ length s) (copy :
   start-labels e h = record { end = h.end; labels = h.labels; at = labels-same s s₀ e h.end to h.labels start-below start-long h.at }
 
   pub start-turn : (ae be : ℕ) (ls ks : List Bytes) → LabelsAt s₀ a ae to ls → LabelsAt s₀ b be to ks
-      → Turn s₀ (record { p = a + 4; q = b + 4; n = 4 }) to ae be (line (t_node (some (insert_names ks (insert_names ls [])))))
+      → Turn s₀ (record { p = a + 4; q = b + 4; n = Some 4 }) to ae be (line (t_node (some (insert_names ks (insert_names ls [])))))
   start-turn ae be ls ks h g =
       let (hi, hf, hr) = label-parts s₀ a ae to ls h in
       let (gi, gf, gr) = label-parts s₀ b be to ks g in
@@ -272,48 +275,37 @@ module _ (s s₀ : Bytes) (a b to : ℕ) (room : to + 1024 ≤ length s) (copy :
         q_in = gi;
         p_below = h.below;
         q_below = g.below;
-        kept = kept-first s₀ to (76 ∷ 44 ∷ 43 ∷ 44 ∷ []) (omega arith) (omega arith)
+        kept = kept-first s₀ to (76 ∷ 44 ∷ 43 ∷ 44 ∷ []) (omega arith)
             (ap (λ (w : Bytes). slice to (to + 4) w) copy ∙ copied s a to 4 (omega (arith, hi, h.below, room)) (omega (arith, room)) ∙ four);
         is = unfold line line_to labels_to in ap (λ (r : List Bytes). 76 ∷ 44 ∷ 43 ∷ 44 ∷ names_to (insert_names ks r) []) (sym (insert-own ls (ascends-sound ls h.ascends)));
         ascends = ascends-sound ks g.ascends;
       }
 
-  pub start-heads : SomeLabels s a to → SomeLabels s b to → SomeHead s₀ (a + 4) × SomeHead s₀ (b + 4)
-  start-heads l r =
-      let l₀ = start-labels a l in
-      let r₀ = start-labels b r in
-      let t = start-turn l₀.end r₀.end l₀.labels r₀.labels l₀.at r₀.at in
-      (record { head = first_of t.ls; at = first_head t }, record { head = first_of t.ks; at = second_head t })
-
-  pub start-inv : (x : ℕ) → SomeLabels s a to → SomeLabels s b to → NextIs s₀ (a + 4) (b + 4) x → LabelsInv s₀ a b to s₀ (record { p = a + 4; q = b + 4; n = 4 }) x
-  start-inv x l r n =
+  pub start-inv : SomeLabels s a to → SomeLabels s b to → LabelsInv s₀ a b to s₀ (record { p = a + 4; q = b + 4; n = Some 4 })
+  start-inv l r =
       record {
         left = start-labels a l;
         right = start-labels b r;
         room = omega (arith, start-long, room);
         below = refl;
         long = refl;
-        going = λ ae be ls ks h g. let t = start-turn ae be ls ks h g in (t, n _ _ (first_head t) (second_head t));
+        going = start-turn;
       }
 
   -- what is made of it
-  ends : (x : ℕ) (ls ks : List Bytes) → x ≡ next_of (first_of ls) (first_of ks) → 3 ≤ x → (ls ≡ []) × (ks ≡ [])
-  ends x [] [] e h = (refl, refl)
-  ends x [] (k ∷ ks) e h = absurd (unfold next_of in omega (arith, e, h))
-  ends x (l ∷ ls) [] e h = absurd (unfold next_of in omega (arith, e, h))
-  ends x (l ∷ ls) (k ∷ ks) e h = absurd (by (tri l k))
-    where
-      by : Tri l k → ⊥
-      by (lt w) = let z : x ≡ 0 = e ∙ unfold next_of in rw (lex-lt w) in omega arith
-      by (eq w) = let z : x ≡ 2 = e ∙ unfold next_of in rw (w, lex-eq k) in omega arith
-      by (gt w) = let z : x ≡ 1 = e ∙ unfold next_of in rw (lex-gt w) in omega arith
+  ends : (ls ks : List Bytes) → None ≡ next_of (first_of ls) (first_of ks) → (ls ≡ []) × (ks ≡ [])
+  unfolding next_of
+  ends [] [] e = (refl, refl)
+  ends [] (k ∷ ks) e = absurd (none-some Second e)
+  ends (l ∷ ls) [] e = absurd (none-some First e)
+  ends (l ∷ ls) (k ∷ ks) e = absurd (none-some (next_by (lex l k)) e)
 
-  pub labels-made : (s' s'' : Bytes) (m : Merge) (x : ℕ) (r : Grown) → LabelsInv s₀ a b to s' m x → 3 ≤ x → r ≡ closed_of m.n → s'' ≡ closed_text s' to m.n
+  pub labels-made : (s' s'' : Bytes) (m : Merge) (r : StdOption ℕ) → LabelsInv s₀ a b to s' m → NextIs s' m.p m.q None → r ≡ closed_of m.n → s'' ≡ closed_text s' to m.n
       → (ae be : ℕ) (ls ks : List Bytes) → LabelsAt s a ae to ls → LabelsAt s b be to ks → Made s s'' to (t_node (some (insert_names ks (insert_names ls [])))) r
   unfolding insert_names names_to
-  labels-made s' s'' m x r inv h er es ae be ls ks hl hk =
-      let (t, n) = inv.going ae be ls ks (labels-same s s₀ a ae to ls start-below start-long hl) (labels-same s s₀ b be to ks start-below start-long hk) in
-      let (el, ek) = ends x t.ls t.ks n h in
+  labels-made s' s'' m r inv h er es ae be ls ks hl hk =
+      let t = inv.going ae be ls ks (labels-same s s₀ a ae to ls start-below start-long hl) (labels-same s s₀ b be to ks start-below start-long hk) in
+      let (el, ek) = ends t.ls t.ks (h _ _ (first_head t) (second_head t)) in
       let whole : t.acc ++ (33 ∷ 44 ∷ []) ≡ line u = ap₂ (λ (v w : List Bytes). t.acc ++ names_to (insert_names v w) []) (sym ek) (sym el) ∙ t.is in
       let w = closed s' s'' to m.n t.acc (line u) r t.kept inv.room whole er es in
       go w
@@ -342,10 +334,17 @@ module _ (s s₀ : Bytes) (a b to : ℕ) (room : to + 1024 ≤ length s) (copy :
           }
 
 -- a turn of the loop
-module _ (s₀ : Bytes) (a b to : ℕ) (s : Bytes) (m : Merge) (x : ℕ) (inv : LabelsInv s₀ a b to s m x) (h : x < 3) where
+module _ (s₀ : Bytes) (a b to : ℕ) (s : Bytes) (m : Merge) (inv : LabelsInv s₀ a b to s m) where
+  -- at the labels that the function was handed
+  pub turn-heads : SomeHead s m.p × SomeHead s m.q
+  turn-heads =
+      let t = inv.going inv.left.end inv.right.end inv.left.labels inv.right.labels inv.left.at inv.right.at in
+      (record { head = first_of t.ls; at = first_head t }, record { head = first_of t.ks; at = second_head t })
+
+module _ (s₀ : Bytes) (a b to : ℕ) (s : Bytes) (m : Merge) (inv : LabelsInv s₀ a b to s m) (x : Side) (next : NextIs s m.p m.q (Some x)) where
   -- at the labels that the function was handed
   own : (ae be : ℕ) (ls ks : List Bytes) → LabelsAt s₀ a ae to ls → LabelsAt s₀ b be to ks → Step s m to ae be (line (t_node (some (insert_names ks (insert_names ls []))))) x
-  own ae be ls ks hl hk = let (t, n) = inv.going ae be ls ks hl hk in step x t n h inv.room
+  own ae be ls ks hl hk = let t = inv.going ae be ls ks hl hk in step x t (next _ _ (first_head t) (second_head t)) inv.room
 
   some-step : Step s m to inv.left.end inv.right.end (line (t_node (some (insert_names inv.right.labels (insert_names inv.left.labels []))))) x
   some-step = own inv.left.end inv.right.end inv.left.labels inv.right.labels inv.left.at inv.right.at
@@ -367,13 +366,8 @@ module _ (s₀ : Bytes) (a b to : ℕ) (s : Bytes) (m : Merge) (x : ℕ) (inv : 
       after : (ae be : ℕ) (ls ks : List Bytes) → LabelsAt s₀ a ae to ls → LabelsAt s₀ b be to ks → Turn s' m' to ae be (line (t_node (some (insert_names ks (insert_names ls [])))))
       after ae be ls ks hl hk = let w = own ae be ls ks hl hk in rw (em, es) (w.turn k (size w.name w.at))
 
-      pub turn-heads : SomeHead s' m'.p × SomeHead s' m'.q
-      turn-heads =
-          let t = after inv.left.end inv.right.end inv.left.labels inv.right.labels inv.left.at inv.right.at in
-          (record { head = first_of t.ls; at = first_head t }, record { head = first_of t.ks; at = second_head t })
-
-      pub turn-again : (x' : ℕ) → NextIs s' m'.p m'.q x' → LabelsInv s₀ a b to s' m' x'
-      turn-again x' n =
+      pub turn-again : LabelsInv s₀ a b to s' m'
+      turn-again =
           let same : length s' ≡ length s = ap length es ∙ kept-long s (taken_at m x) k to m.n in
           record {
             left = inv.left;
@@ -381,5 +375,5 @@ module _ (s₀ : Bytes) (a b to : ℕ) (s : Bytes) (m : Merge) (x : ℕ) (inv : 
             room = omega (arith, same, inv.room);
             below = ap (take to) es ∙ kept-below s (taken_at m x) k to m.n ∙ inv.below;
             long = same ∙ inv.long;
-            going = λ ae be ls ks hl hk. let t = after ae be ls ks hl hk in (t, n _ _ (first_head t) (second_head t));
+            going = after;
           }

@@ -1,5 +1,6 @@
 pub mod EntryLaws
 pub mod Fields
+pub mod Flat
 pub mod Heads
 pub mod Inner
 pub mod KindLaws
@@ -13,7 +14,7 @@ pub mod NameLaws
 pub mod Places
 pub mod Sizes
 pub mod Skips
-pub mod Strict
+pub mod StrictForm
 pub mod Members
 pub mod UnionLaws
 pub mod UnionEnds

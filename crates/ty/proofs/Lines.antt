@@ -64,12 +64,6 @@ line-to t r = line-end t [] r
 pub length_to : (t : Ty) (r : Bytes) → length (line_to t r) ≡ length (line t) + length r
 length_to t r = ap length (line-to t r) ∙ length-append (line t) r
 
-pub members-to : (ts : Tys) (r : Bytes) → members_to ts r ≡ members_to ts [] ++ r
-members-to ts r = members-end ts [] r
-
-pub fields-to : (fs : Fields) (r : Bytes) → fields_to fs r ≡ fields_to fs [] ++ r
-fields-to fs r = fields-end fs [] r
-
 pub name-to : (n r : Bytes) → name_to n r ≡ map hex n ++ (44 ∷ r)
 unfolding name_to
 name-to [] r = refl

@@ -1,5 +1,5 @@
 -- Names in a text: where one ends, how two compare, what tells a name from the end of a list. Assumes nothing.
-use Prim.Native.Nat.{ℕ, suc, ◌+◌, ◌≤◌, ◌<◌}
+use Prim.Native.Nat.{Ordering, ℕ, suc, ◌+◌, ◌≤◌, ◌<◌}
 use native.Mathlib.Nat.{add-zero}
 use native.Mathlib.Omega.{arith}
 use mathlib.Core.Path.{◌≡◌, refl, sym, ap, ap₂, ◌∙◌}
@@ -10,14 +10,16 @@ use borrow.Author.Tests.{ltb-true, ltb-false}
 use lib.Dec.{ltb}
 use lib.ListN.{length, take, drop, get_or, length-drop, length-append, length-map}
 use lib.Seq.{slice, get_or-drop}
+use Rattle.std.specs.Prelude.{Some, None}
 use Rattle.text.specs.Text.{index_of}
 use Rattle.semantics.specs.Bytes.{Bytes, lex, hex}
 use Rattle.semantics.specs.Ty.{name_to}
 use Rattle.semantics.proofs.Order.{Less, ends, here, next, lex-lt, lex-gt, lex-eq, Tri, lt, eq, gt, tri, hex-low}
 use Rattle.text.specs.Text.{Ends, order_of}
-use Rattle.text.specs.declared.Order.{Order}
+use Rattle.std.specs.declared.cmp.Ordering.{Ordering as Order}
 use Rattle.text.proofs.Laws.{take-drop}
 use Rattle.ty.proofs.Lines.{name-to, comma-at, hex-bytes}
+use Rattle.ty.specs.declared.merging.Side.TheVariants.{First, Second}
 use Rattle.ty.specs.Merging.{head_to, HeadAt, next_by, next_of}
 
 -- ## A name and what follows it
@@ -109,28 +111,28 @@ name_part s p r n h e =
 
 -- ## What `next_name` answers
 
-pub next-end : (s : Bytes) (p q : ℕ) (o u : Option Bytes) → HeadAt s p o → HeadAt s q u → get_or s p 0 ≡ 33 → get_or s q 0 ≡ 33 → 3 ≡ next_of o u
+pub next-end : (s : Bytes) (p q : ℕ) (o u : Option Bytes) → HeadAt s p o → HeadAt s q u → get_or s p 0 ≡ 33 → get_or s q 0 ≡ 33 → None ≡ next_of o u
 unfolding next_of
 next-end s p q none none h k a b = refl
 next-end s p q none (some m) h k a b = absurd (head-name s q m k b)
 next-end s p q (some n) u h k a b = absurd (head-name s p n h a)
 
-pub next-second : (s : Bytes) (p q : ℕ) (o u : Option Bytes) → HeadAt s p o → HeadAt s q u → get_or s p 0 ≡ 33 → (get_or s q 0 ≡ 33 → ⊥) → 1 ≡ next_of o u
+pub next-second : (s : Bytes) (p q : ℕ) (o u : Option Bytes) → HeadAt s p o → HeadAt s q u → get_or s p 0 ≡ 33 → (get_or s q 0 ≡ 33 → ⊥) → Some Second ≡ next_of o u
 unfolding next_of
 next-second s p q none none h k a b = absurd (b (head-end s q k))
 next-second s p q none (some m) h k a b = refl
 next-second s p q (some n) u h k a b = absurd (head-name s p n h a)
 
-pub next-first : (s : Bytes) (p q : ℕ) (o u : Option Bytes) → HeadAt s p o → HeadAt s q u → (get_or s p 0 ≡ 33 → ⊥) → get_or s q 0 ≡ 33 → 0 ≡ next_of o u
+pub next-first : (s : Bytes) (p q : ℕ) (o u : Option Bytes) → HeadAt s p o → HeadAt s q u → (get_or s p 0 ≡ 33 → ⊥) → get_or s q 0 ≡ 33 → Some First ≡ next_of o u
 unfolding next_of
 next-first s p q none u h k a b = absurd (a (head-end s p h))
 next-first s p q (some n) none h k a b = refl
 next-first s p q (some n) (some m) h k a b = absurd (head-name s q m k b)
 
 pub next-compared : (s : Bytes) (p q pe qe : ℕ) (o u : Option Bytes) (x y : Order) → HeadAt s p o → HeadAt s q u → (get_or s p 0 ≡ 33 → ⊥) → (get_or s q 0 ≡ 33 → ⊥)
-    → Ends 44 s p pe → Ends 44 s q qe → order_of x ≡ lex (slice p pe s) (slice q qe s) → x ≡ y → next_by (order_of y) ≡ next_of o u
+    → Ends 44 s p pe → Ends 44 s q qe → order_of x ≡ lex (slice p pe s) (slice q qe s) → x ≡ y → Some (next_by (order_of y)) ≡ next_of o u
 unfolding next_of
 next-compared s p q pe qe none u x y h k a b e f c t = absurd (a (head-end s p h))
 next-compared s p q pe qe (some n) none x y h k a b e f c t = absurd (b (head-end s q k))
 next-compared s p q pe qe (some n) (some m) x y h k a b e f c t =
-    ap next_by (sym (ap order_of t) ∙ c ∙ ap₂ lex (name_part s p pe n h e) (name_part s q qe m k f) ∙ lex-hex n m)
+    ap (λ (z : Ordering). Some (next_by z)) (sym (ap order_of t) ∙ c ∙ ap₂ lex (name_part s p pe n h e) (name_part s q qe m k f) ∙ lex-hex n m)

@@ -1,5 +1,5 @@
 -- Whether a type is too large, by its line and its nesting. Assumes nothing.
-use mathlib.Core.Path.{◌≡◌, refl, sym, ◌∙◌, ap}
+use mathlib.Core.Path.{◌≡◌, refl, sym, ap}
 use mathlib.Core.Bool.{Bool, true, false, ◌||◌, not, false≢true}
 use mathlib.Core.List.{[]}
 use Prim.Native.Nat.{ℕ, ◌+◌, ◌*◌, ◌≤◌, ◌<◌}
@@ -7,11 +7,10 @@ use native.Mathlib.Omega.{arith}
 use lib.Dec.{ltb, leb}
 use lib.ListN.{length}
 use borrow.Author.Tests.{lt-ltb, le-ltb, ltb-false, leb-true, leb-false}
+use Rattle.std.specs.Prelude.{is_some, Option, Some, None}
 use Rattle.semantics.specs.Limits.{type_limit, nesting_limit}
 use Rattle.semantics.specs.Bytes.{Bytes}
 use Rattle.semantics.specs.Ty.{Ty, line, nesting, too_large}
-use Rattle.ty.specs.declared.end.TypeEnd.{TypeEnd}
-use Rattle.ty.specs.declared.end.TypeEnd.TheVariants.{End, Bad}
 use Rattle.ty.specs.Read.{end_within, NestingEnd}
 use Rattle.ty.proofs.Lines.{nesting-line}
 
@@ -41,20 +40,20 @@ large-no t h =
     let p = or_no (ltb type_limit (length (line t))) (ltb nesting_limit (nesting t)) h in
     (ltb-false type_limit (length (line t)) p.0, ltb-false nesting_limit (nesting t) p.1)
 
-pub within_end : (l a e : ℕ) (t : Ty) → End e ≡ end_within l a t → nesting t ≤ l
+pub within_end : (l a e : ℕ) (t : Ty) → Some e ≡ end_within l a t → nesting t ≤ l
 unfolding end_within
 within_end l a e t h = go (leb (nesting t) l) refl
   where
     go : (b : Bool) → leb (nesting t) l ≡ b → nesting t ≤ l
     go true x = leb-true (nesting t) l x
-    go false x = let w : End e ≡ Bad = rw x at h in let z : ◌≡◌ {A = ℕ} 0 1 = cc in absurd (omega arith)
+    go false x = let w : Some e ≡ None = rw x at h in let z : ◌≡◌ {A = ℕ} 0 1 = cc in absurd (omega arith)
 
-pub within-bad : (l a : ℕ) (t : Ty) → Bad ≡ end_within l a t → l < nesting t
+pub within-bad : (l a : ℕ) (t : Ty) → None ≡ end_within l a t → l < nesting t
 unfolding end_within
 within-bad l a t h = go (leb (nesting t) l) refl
   where
     go : (b : Bool) → leb (nesting t) l ≡ b → l < nesting t
-    go true x = let w : Bad ≡ End (a + length (line t)) = rw x at h in let z : ◌≡◌ {A = ℕ} 0 1 = cc in absurd (omega arith)
+    go true x = let w : None ≡ Some (a + length (line t)) = rw x at h in let z : ◌≡◌ {A = ℕ} 0 1 = cc in absurd (omega arith)
     go false x = leb-false (nesting t) l x
 
 module _ (s : Bytes) (t : Ty) (e : s ≡ line t) where
@@ -64,12 +63,10 @@ module _ (s : Bytes) (t : Ty) (e : s ≡ line t) where
   pub fits-short : length s ≤ 2 * nesting_limit → true ≡ not (too_large t)
   fits-short h = rw (not-large t (omega (arith, ap length e)) (omega (arith, ap length e, nesting-line t)))
 
-  nested-at : (res : TypeEnd) → NestingEnd s 0 nesting_limit res → res ≡ end_within nesting_limit 0 t
+  nested-at : (res : Option ℕ) → NestingEnd s 0 nesting_limit res → res ≡ end_within nesting_limit 0 t
   unfolding line
   nested-at res h = h t [] e
 
-  pub fits-deep : (res : TypeEnd) (p : ℕ) → NestingEnd s 0 nesting_limit res → res ≡ End p → length s ≤ type_limit → true ≡ not (too_large t)
-  fits-deep res p h z m = rw (not-large t (omega (arith, ap length e)) (within_end nesting_limit 0 p t (sym z ∙ nested-at res h)))
-
-  pub fits_not : (res : TypeEnd) → NestingEnd s 0 nesting_limit res → res ≡ Bad → false ≡ not (too_large t)
-  fits_not res h z = rw (deep-large t (within-bad nesting_limit 0 t (sym z ∙ nested-at res h)))
+  pub fits-deep : (res : Option ℕ) → NestingEnd s 0 nesting_limit res → length s ≤ type_limit → is_some res ≡ not (too_large t)
+  fits-deep (Some p) h m = rw (not-large t (omega (arith, ap length e)) (within_end nesting_limit 0 p t (nested-at (Some p) h)))
+  fits-deep None h m = rw (deep-large t (within-bad nesting_limit 0 t (nested-at None h)))

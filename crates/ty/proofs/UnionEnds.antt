@@ -7,13 +7,13 @@ use native.Mathlib.Nat.{add-zero, zero-add}
 use native.Mathlib.Omega.{arith}
 use lib.ListN.{length, take, drop, get_or, set, length-append, take-append-drop}
 use lib.Seq.{slice, sets, take_at, drop_at, length-take-le, get_or-drop, set_at, drop-cons}
+use Rattle.std.specs.Prelude.{Option, Some, None}
 use Rattle.semantics.specs.Bytes.{Bytes}
 use Rattle.semantics.specs.Ty.{Base, t_any, t_null, t_bool, t_int, t_float, t_num, t_string, t_date, t_datetime, t_path, t_unknown, Ty, base, t_list, t_map, t_node, t_relationship, t_union, Tys, letter, line_to, line, inserts, members, opened, joined, too_large}
 use Rattle.text.proofs.Laws.{drop-join, sets-parts, drop-above}
 use Rattle.ty.specs.Parts.{lines_of, TypeAt, TypeFrom, EndsAt}
-use Rattle.ty.specs.Union.{TypesAt, Placing, Inserted, Adding, AddedAll, Grew, grown, wrapped, Closing, LinedAs, Lined, ClosedAs}
-use Rattle.ty.specs.declared.Grown.{Grown}
-use Rattle.ty.specs.declared.Grown.TheVariants.{Len, TooLarge}
+use Rattle.ty.specs.Made.{made}
+use Rattle.ty.specs.Union.{TypesAt, Placing, Inserted, Adding, AddedAll, Grew, wrapped, Closing, LinedAs, Lined, ClosedAs}
 use Rattle.ty.proofs.Lines.{line-to}
 use Rattle.ty.proofs.Members.{line-long, union-line, one_line, types_long, types-whole, types-at, as-types, no-types}
 use Rattle.ty.proofs.UnionLaws.{inserted-as, drop-up, two-lines, one-member}
@@ -122,7 +122,7 @@ opened-adding {s} {s'} {n} {e} p h w l =
     let d = union-down us p.front (subst (λ (t : Ty). TypeAt s n e t) q p.new.at) w l in
     record { members = p.members; types = members us; front = d.front; new = d.new }
 
-pub opened-grew : {s s' s'' : Bytes} {n e : ℕ} {r : Grown} → get_or s n 0 ≡ 79 → s' ≡ sets s n (slice (n + 2) (n + 2 + (e - n - 4)) s) → length s' ≡ length s
+pub opened-grew : {s s' s'' : Bytes} {n e : ℕ} {r : Option ℕ} → get_or s n 0 ≡ 79 → s' ≡ sets s n (slice (n + 2) (n + 2 + (e - n - 4)) s) → length s' ≡ length s
     → AddedAll s' s'' n (n + (e - n - 4)) r → (ms : List Ty) (t : Ty) → TypesAt s 0 n ms → TypeAt s n e t → Grew s s'' e (inserts (opened t) ms) r
 unfolding opened
 opened-grew {s} {s'} {s''} {n} {e} {r} h w l a ms t f g =
@@ -144,7 +144,7 @@ opened-grew {s} {s'} {s''} {n} {e} {r} h w l a ms t f g =
 pub plain-adding : {s : Bytes} {n e : ℕ} → Placing s n e → Adding s n e
 plain-adding p = record { members = p.members; types = p.new.ty ∷ []; front = p.front; new = as-types p.new.at }
 
-pub plain-grew : {s s' : Bytes} {n e : ℕ} {r : Grown} → (get_or s n 0 ≡ 79 → ⊥) → AddedAll s s' n e r
+pub plain-grew : {s s' : Bytes} {n e : ℕ} {r : Option ℕ} → (get_or s n 0 ≡ 79 → ⊥) → AddedAll s s' n e r
     → (ms : List Ty) (t : Ty) → TypesAt s 0 n ms → TypeAt s n e t → Grew s s' e (inserts (opened t) ms) r
 plain-grew {s} {s'} {n} {e} {r} h a ms t f g = subst (λ (v : List Ty). Grew s s' e (inserts v ms) r) (sym (is-other g h)) (a ms (t ∷ []) f (as-types g))
 
@@ -255,22 +255,11 @@ pub closing-line : {s s' : Bytes} {n r : ℕ} → Closing s n → Lined s s' n r
 unfolding line
 closing-line p g = record { ty = joined p.members; rest = []; is = lined-text (g p.members p.front) }
 
-pub closing-room : {s s' : Bytes} {n r : ℕ} → Closing s n → Lined s s' n r → r ≤ length s'
-closing-room p g = lined-room (g p.members p.front)
-
-pub closed-fits : {s s' : Bytes} {n r : ℕ} (b : Bool) → b ≡ true → Lined s s' n r → ((t : Ty) → take r s' ≡ line t → b ≡ not (too_large t))
-    → (ms : List Ty) → TypesAt s 0 n ms → ClosedAs s s' n (joined ms) (Len r)
-closed-fits {s} {s'} {n} {r} b e g h ms f = let w = g ms f in record { text = w.text; answer = go (too_large (joined ms)) (sym e ∙ h (joined ms) (lined-text w)) w.answer }
-  where
-    go : (c : Bool) → true ≡ not c → r ≡ length (line (joined ms)) → Len r ≡ grown c (length (line (joined ms)))
-    go true q k = absurd (false≢true (sym q))
-    go false q k = ap Len k
-
 pub closed-large : {s s' : Bytes} {n r : ℕ} (b : Bool) → b ≡ false → Lined s s' n r → ((t : Ty) → take r s' ≡ line t → b ≡ not (too_large t))
-    → (ms : List Ty) → TypesAt s 0 n ms → ClosedAs s s' n (joined ms) TooLarge
+    → (ms : List Ty) → TypesAt s 0 n ms → ClosedAs s s' n (joined ms) None
 closed-large {s} {s'} {n} {r} b e g h ms f = let w = g ms f in record { text = w.text; answer = go (too_large (joined ms)) (sym e ∙ h (joined ms) (lined-text w)) }
   where
-    go : (c : Bool) → false ≡ not c → TooLarge ≡ grown c (length (line (joined ms)))
+    go : (c : Bool) → false ≡ not c → None ≡ made c (length (line (joined ms)))
     go true q = refl
     go false q = absurd (false≢true q)
 

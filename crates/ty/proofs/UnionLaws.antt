@@ -8,18 +8,17 @@ use native.Mathlib.Omega.{arith}
 use lib.ListN.{length, take, drop, length-append}
 use lib.Seq.{slice, sets, drop-drop}
 use borrow.Author.Tests.{lt-ltb, le-ltb}
+use Rattle.std.specs.Prelude.{Option, Some, None}
 use Rattle.semantics.specs.Bytes.{Bytes, lex}
 use Rattle.semantics.specs.Ty.{Ty, line_to, line, insert, inserts, pack, joined}
 use Rattle.text.specs.Text.{rotated}
 use Rattle.text.proofs.Laws.{sets-parts, drop-above}
 use Rattle.semantics.specs.Limits.{type_limit}
 use Rattle.ty.specs.Parts.{lines_of, TypeAt, TypeFrom, EndsAt}
-use Rattle.ty.specs.Union.{TypesAt, Placing, Placed, Between, Goes, Pending, Inserted, InsertedAny, overlong, grown, SomeMembers, Sized, Adding, Grew}
+use Rattle.ty.specs.Made.{made}
+use Rattle.ty.specs.Union.{TypesAt, Placing, Placed, Between, Goes, Pending, Inserted, InsertedAny, overlong, SomeMembers, Sized, Adding, Grew}
 use Rattle.ty.specs.Keys.{Below}
-use Rattle.ty.specs.declared.union.Slot.{Slot}
-use Rattle.ty.specs.declared.union.Slot.TheVariants.{At, There}
 use Rattle.ty.specs.declared.union.Rest.{Rest}
-use Rattle.ty.specs.declared.Grown.{Grown}
 use Rattle.ty.proofs.Members.{line-long, lines-append, drop-at-two, union-line, members-pack, types_long, types-whole, types-at, first-from, no-types, types-split, one_line, first_at, others-at, insert-past, insert-there, insert-here}
 
 -- ## `place`: the members before the byte q are less than x
@@ -204,11 +203,11 @@ module _ {s : Bytes} {n e : ℕ} {ms : List Ty} {x : Ty} {ts : List Ty} (f : Typ
       inserted-as (insert x ms) ts (drop (n + length (lines_of ts)) s) y (ap length (ap lines_of b) ∙ omega (arith, types_long f)) (omega arith) (omega arith)
       (ap (drop e) c ∙ drop-above e s n (lines_of ts) (omega arith)) l
 
-pub goes_at : {ms : List Ty} {x : Ty} (r : Slot) (p : ℕ) → Goes ms x r → r ≡ At p → Between ms x p
-goes_at {ms} {x} r p g q = subst (λ (u : Slot). Goes ms x u) q g
+pub goes_at : {ms : List Ty} {x : Ty} (r : Option ℕ) (p : ℕ) → Goes ms x r → r ≡ Some p → Between ms x p
+goes_at {ms} {x} r p g q = subst (λ (u : Option ℕ). Goes ms x u) q g
 
-pub goes-there : (ms : List Ty) (x : Ty) (r : Slot) → Goes ms x r → r ≡ There → insert x ms ≡ ms
-goes-there ms x r g q = subst (λ (u : Slot). Goes ms x u) q g
+pub goes-there : (ms : List Ty) (x : Ty) (r : Option ℕ) → Goes ms x r → r ≡ None → insert x ms ≡ ms
+goes-there ms x r g q = subst (λ (u : Option ℕ). Goes ms x u) q g
 
 pub between-low : {s : Bytes} {n p : ℕ} {ms : List Ty} {x : Ty} → TypesAt s 0 n ms → Between ms x p → p ≤ n
 between-low f b = omega (arith, types_long f, b.at, ap length (ap lines_of b.members), ap length (lines-append b.before b.after), length-append (lines_of b.before) (lines_of b.after))
@@ -226,7 +225,7 @@ module _ {s : Bytes} {n e : ℕ} (p : Pending s n e) where
   pub next-placing : {m : ℕ} → EndsAt s n m → Placing s n m
   next-placing ends = record { members = p.members; front = p.front; new = record { ty = p.first; at = next-at p.new ends } }
 
-  pub next-slot : {m : ℕ} (r : Slot) (k : ℕ) → EndsAt s n m → Placed s n m r → r ≡ At k → k ≤ n
+  pub next-slot : {m : ℕ} (r : Option ℕ) (k : ℕ) → EndsAt s n m → Placed s n m r → r ≡ Some k → k ≤ n
   next-slot r k ends g q = between-low p.front (goes_at r k (g p.members p.first p.front (next-at p.new ends)) q)
 
 -- ## `union_size`
@@ -322,10 +321,6 @@ pub record AddInv (s₀ : Bytes) (len end : ℕ) (s : Bytes) (n e : ℕ) : Type 
   pub long : length s ≡ length s₀
   pub held : (ms ts : List Ty) → TypesAt s₀ 0 len ms → TypesAt s₀ len end ts → Held s n e (inserts ts ms)
 
-pub add_start : (s : Bytes) (len end : ℕ) → AddInv s len end s len end
-add_start s len end =
-    record { within = omega arith; above = refl; long = refl; held = λ ms ts f g. record { members = ms; types = ts; front = f; new = g; all = refl } }
-
 -- one more is to go in
 pub record HeldMore (s : Bytes) (n e : ℕ) (us : List Ty) : Type 0 where
   pub members : List Ty
@@ -383,7 +378,7 @@ module _ {s₀ : Bytes} {len end : ℕ} {s : Bytes} {n e : ℕ} (p : Adding s₀
   pub add-members : e ≤ n → SomeMembers s n
   add-members h = record { members = inserts p.types p.members; front = held-end add-held h }
 
-  pub add-grew : {r : Grown} → e ≤ n → Sized s n r → (ms ts : List Ty) → TypesAt s₀ 0 len ms → TypesAt s₀ len end ts → Grew s₀ s end (inserts ts ms) r
+  pub add-grew : {r : Option ℕ} → e ≤ n → Sized s n r → (ms ts : List Ty) → TypesAt s₀ 0 len ms → TypesAt s₀ len end ts → Grew s₀ s end (inserts ts ms) r
   add-grew {r} h z ms ts f g =
       let w = held-end (i.held ms ts f g) h in
       let k : 0 + length (lines_of (inserts ts ms)) ≡ n = types_long w in
@@ -394,5 +389,5 @@ module _ {s₀ : Bytes} {len end : ℕ} {s : Bytes} {n e : ℕ} (p : Adding s₀
         within = omega (arith, i.within);
         above = i.above;
         long = i.long;
-        answer = z (inserts ts ms) w ∙ ap (λ (k : ℕ). grown (overlong (inserts ts ms)) k) l;
+        answer = z (inserts ts ms) w ∙ ap (λ (k : ℕ). made (overlong (inserts ts ms)) k) l;
       }

@@ -1,5 +1,5 @@
 -- An entry goes into a map line at the front of a text: what the contracts of map.rt cite.
-use Rattle.std.specs.Prelude.{ℕ, ◌≤◌, ◌≡◌, ◌∷◌, ◌++◌, map, ltb, length, take, drop}
+use Rattle.std.specs.Prelude.{ℕ, ◌≤◌, ◌≡◌, ◌∷◌, ◌++◌, map, ltb, length, take, drop, Option, Some, None}
 use Rattle.std.proofs.Math.Seq.{slice}
 use Rattle.semantics.specs.Codes.{comma}
 use Rattle.semantics.specs.Limits.{type_limit}
@@ -7,8 +7,6 @@ use Rattle.semantics.specs.Bytes.{Bytes, hex}
 use Rattle.semantics.specs.Ty.{Ty, t_map, Fields, name_to, line, too_large, set_field}
 use Rattle.ty.specs.Parts.{TypeAt, SomeType}
 use Rattle.ty.specs.Made.{Made, made}
-use Rattle.ty.specs.declared.Grown.{Grown}
-use Rattle.ty.specs.declared.Grown.TheVariants.{Len, TooLarge}
 use Rattle.ty.specs.declared.map.Spot.{Spot}
 use Rattle.ty.specs.declared.map.Spot.TheVariants.{New, Old}
 
@@ -35,7 +33,7 @@ Spotted s len x r = (fs : Fields) (n : Bytes) → MapFront s len x fs n → Goes
 -- ## The bytes
 
 -- the answer says whether l is too long; if not, it stands at the front now
-pub record Fronted (s s' l : Bytes) (r : Grown) : Type 0 where
+pub record Fronted (s s' l : Bytes) (r : Option ℕ) : Type 0 where
   pub answer : r ≡ made (ltb type_limit (length l)) (length l)
   pub stands : length l ≤ type_limit → take (length l) s' ≡ l
   pub long : length s' ≡ length s
@@ -50,13 +48,13 @@ replaced_at s len end v e = take v s ++ (slice len end s ++ slice e len s)
 
 -- ## The size of what was made
 
-abbrev pub FrontOf : Bytes → Grown → Type 0
-FrontOf s (Len n) = SomeType s 0 n
-FrontOf s TooLarge = Unit {0}
+abbrev pub FrontOf : Bytes → Option ℕ → Type 0
+FrontOf s (Some n) = SomeType s 0 n
+FrontOf s None = Unit {0}
 
-abbrev pub TestedAs : Bytes → Grown → Grown → Type 0
-TestedAs s (Len n) r = (t : Ty) → TypeAt s 0 n t → r ≡ made (too_large t) n
-TestedAs s TooLarge r = r ≡ TooLarge
+abbrev pub TestedAs : Bytes → Option ℕ → Option ℕ → Type 0
+TestedAs s (Some n) r = (t : Ty) → TypeAt s 0 n t → r ≡ made (too_large t) n
+TestedAs s None r = r ≡ None
 
 -- ## The whole
 
@@ -65,5 +63,5 @@ pub record Entering (s : Bytes) (len end : ℕ) (x : Bytes) : Type 0 where
   pub value : SomeType s len end
   pub room : type_limit ≤ length s
 
-abbrev pub Entered : Bytes → Bytes → ℕ → ℕ → Bytes → Grown → Type 0
+abbrev pub Entered : Bytes → Bytes → ℕ → ℕ → Bytes → Option ℕ → Type 0
 Entered s s' len end x r = (fs : Fields) (n : Bytes) (t : Ty) → MapFront s len x fs n → TypeAt s len end t → Made s s' 0 (t_map (set_field n t fs)) r

@@ -1,4 +1,5 @@
 pub mod Entry
+pub mod Form
 pub mod Keys
 pub mod Kind
 pub mod Made

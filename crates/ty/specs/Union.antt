@@ -1,15 +1,12 @@
 -- The running union: its members one after the other at the front of a text, with no `O,` before and no `!,` behind them. What the contracts of union.rt cite.
-use Rattle.std.specs.Prelude.{ℕ, ◌+◌, ◌≤◌, ◌≡◌, Bool, true, false, List, ◌∷◌, ◌++◌, ltb, length, take, drop}
+use Rattle.std.specs.Prelude.{ℕ, ◌+◌, ◌≤◌, ◌≡◌, Bool, List, ◌∷◌, ◌++◌, ltb, length, take, drop, Option, Some, None}
 use Rattle.std.proofs.Math.Seq.{slice}
 use Rattle.semantics.specs.Codes.{comma, close_mark, union_letter}
 use Rattle.semantics.specs.Limits.{type_limit}
 use Rattle.semantics.specs.Bytes.{Bytes}
 use Rattle.semantics.specs.Ty.{Ty, line, insert, inserts, opened, joined, too_large}
 use Rattle.ty.specs.Parts.{lines_of, TypeAt, SomeType}
-use Rattle.ty.specs.declared.Grown.{Grown}
-use Rattle.ty.specs.declared.Grown.TheVariants.{Len, TooLarge}
-use Rattle.ty.specs.declared.union.Slot.{Slot}
-use Rattle.ty.specs.declared.union.Slot.TheVariants.{At, There}
+use Rattle.ty.specs.Made.{made}
 use Rattle.ty.specs.declared.union.Rest.{Rest}
 
 -- the types ts stand one after the other at [a, e) of the text s
@@ -34,11 +31,11 @@ pub record Between (ms : List Ty) (x : Ty) (p : ℕ) : Type 0 where
   pub at : p ≡ length (lines_of before)
   pub inserted : insert x ms ≡ before ++ (x ∷ after)
 
-abbrev pub Goes : List Ty → Ty → Slot → Type 0
-Goes ms x (At p) = Between ms x p
-Goes ms x There = insert x ms ≡ ms
+abbrev pub Goes : List Ty → Ty → Option ℕ → Type 0
+Goes ms x (Some p) = Between ms x p
+Goes ms x None = insert x ms ≡ ms
 
-abbrev pub Placed : Bytes → ℕ → ℕ → Slot → Type 0
+abbrev pub Placed : Bytes → ℕ → ℕ → Option ℕ → Type 0
 Placed s n m r = (ms : List Ty) (x : Ty) → TypesAt s 0 n ms → TypeAt s n m x → Goes ms x r
 
 -- ## One type more
@@ -68,18 +65,13 @@ InsertedAny s s' n e r = (ms : List Ty) (x : Ty) (ts : List Ty) → TypesAt s 0 
 unfoldable pub overlong : List Ty → Bool
 overlong ms = ltb type_limit (length (line (joined ms)))
 
--- too large, or so long
-abbrev pub grown : Bool → ℕ → Grown
-grown true n = TooLarge
-grown false n = Len n
-
 -- members stand at [0, n)
 pub record SomeMembers (s : Bytes) (n : ℕ) : Type 0 where
   pub members : List Ty
   pub front : TypesAt s 0 n members
 
-abbrev pub Sized : Bytes → ℕ → Grown → Type 0
-Sized s n r = (ms : List Ty) → TypesAt s 0 n ms → r ≡ grown (overlong ms) n
+abbrev pub Sized : Bytes → ℕ → Option ℕ → Type 0
+Sized s n r = (ms : List Ty) → TypesAt s 0 n ms → r ≡ made (overlong ms) n
 
 -- members stand at [0, n), and types at [n, e)
 pub record Adding (s : Bytes) (n e : ℕ) : Type 0 where
@@ -89,17 +81,17 @@ pub record Adding (s : Bytes) (n e : ℕ) : Type 0 where
   pub new : TypesAt s n e types
 
 -- these members stand at the front now, and nothing from e on has changed; the answer is their length, or that their union is too long
-pub record Grew (s s' : Bytes) (e : ℕ) (us : List Ty) (r : Grown) : Type 0 where
+pub record Grew (s s' : Bytes) (e : ℕ) (us : List Ty) (r : Option ℕ) : Type 0 where
   pub front : TypesAt s' 0 (length (lines_of us)) us
   pub within : length (lines_of us) ≤ e
   pub above : drop e s' ≡ drop e s
   pub long : length s' ≡ length s
-  pub answer : r ≡ grown (overlong us) (length (lines_of us))
+  pub answer : r ≡ made (overlong us) (length (lines_of us))
 
-abbrev pub AddedAll : Bytes → Bytes → ℕ → ℕ → Grown → Type 0
+abbrev pub AddedAll : Bytes → Bytes → ℕ → ℕ → Option ℕ → Type 0
 AddedAll s s' n e r = (ms ts : List Ty) → TypesAt s 0 n ms → TypesAt s n e ts → Grew s s' e (inserts ts ms) r
 
-abbrev pub AddedOpened : Bytes → Bytes → ℕ → ℕ → Grown → Type 0
+abbrev pub AddedOpened : Bytes → Bytes → ℕ → ℕ → Option ℕ → Type 0
 AddedOpened s s' n e r = (ms : List Ty) (t : Ty) → TypesAt s 0 n ms → TypeAt s n e t → Grew s s' e (inserts (opened t) ms) r
 
 -- ## The members as one type
@@ -128,9 +120,9 @@ pub record LinedAs (s s' : Bytes) (n : ℕ) (t : Ty) (r : ℕ) : Type 0 where
 abbrev pub Lined : Bytes → Bytes → ℕ → ℕ → Type 0
 Lined s s' n r = (ms : List Ty) → TypesAt s 0 n ms → LinedAs s s' n (joined ms) r
 
-pub record ClosedAs (s s' : Bytes) (n : ℕ) (t : Ty) (r : Grown) : Type 0 where
+pub record ClosedAs (s s' : Bytes) (n : ℕ) (t : Ty) (r : Option ℕ) : Type 0 where
   pub text : Fronted s s' n t
-  pub answer : r ≡ grown (too_large t) (length (line t))
+  pub answer : r ≡ made (too_large t) (length (line t))
 
-abbrev pub Closed : Bytes → Bytes → ℕ → Grown → Type 0
+abbrev pub Closed : Bytes → Bytes → ℕ → Option ℕ → Type 0
 Closed s s' n r = (ms : List Ty) → TypesAt s 0 n ms → ClosedAs s s' n (joined ms) r

@@ -13,47 +13,33 @@ use crate::letters::{
 };
 use text::COMMA;
 
-// Where a type ends, or that there is none.
-#[derive(Drop)]
-pub enum TypeEnd {
-    End(usize),
-    Bad,
-}
-
 // The field after the one at q.
 pub fn next_field(s: &[u8], q: usize) -> usize
     requires { q + index_of comma (drop q s.now) < length s.now }
     ensures { result ≡ next_field s.now q }
 {
-    let mut i = q;
-    while s[i] != COMMA {
-        i += 1;
-    }
-    i + 1
+    text::field_end(s, q) + 1
 }
 
 // Brackets open behind a field that begins with c: K, L and O open one, `!` closes one.
+#[tactic(auto, unfolding(crate::specs::Skip::opened_by))]
 fn opened(c: u8, depth: usize) -> usize
     requires { (c ≡ 33 → 0 < depth) × (depth + 1 < 2 ^ 64) }
     ensures { result ≡ opened_by c depth }
 {
     match c {
         CLOSE => depth - 1,
-        MAP => depth + 1,
-        NODE => depth + 1,
-        UNION => depth + 1,
+        MAP | NODE | UNION => depth + 1,
         _ => depth,
     }
 }
 
 // Whether the type goes on behind a field that begins with c.
+#[tactic(auto, unfolding(crate::specs::Skip::goes_on))]
 fn goes_on(c: u8, depth: usize) -> bool
     ensures { result ≡ goes_on c depth }
 {
-    if c == LIST {
-        return true;
-    }
-    depth > 0
+    c == LIST || depth > 0
 }
 
 // The end of the relationship type at q.
@@ -85,14 +71,14 @@ fn nested_end(s: &[u8], at: usize) -> usize
 {
     let mut q = at;
     let mut depth = 0;
-    let mut more = true;
-    while more {
+    loop {
         let c = s[q];
         q = skip_field(s, q);
         depth = opened(c, depth);
-        more = goes_on(c, depth);
+        if !goes_on(c, depth) {
+            return q;
+        }
     }
-    q
 }
 
 // Where the type at `at` ends. A letter below that of lists is a whole type.
@@ -111,84 +97,72 @@ pub fn type_end(s: &[u8], at: usize) -> usize
 }
 
 // Whether the field at q is the one byte b.
+#[tactic(auto, unfolding(crate::specs::Read::field_at))]
 pub fn is_field(s: &[u8], q: usize, b: u8) -> bool
     ensures { result ≡ field_at s.now q b }
 {
-    if s.len() <= q {
-        return false;
-    }
-    if s.len() - q < 2 {
-        return false;
-    }
-    if s[q] != b {
-        return false;
-    }
-    s[q + 1] == COMMA
+    q < s.len() && s.len() - q >= 2 && s[q] == b && s[q + 1] == COMMA
 }
 
-// The letter that is the field at q, 0 where it is none.
-pub fn letter(s: &[u8], q: usize) -> u8
+// The letter that is the field at q, if it is one byte.
+#[tactic(auto, unfolding(crate::specs::Read::letter_at), using(crate::proofs::Fields::letter_past))]
+pub fn letter(s: &[u8], q: usize) -> Option<u8>
     ensures { result ≡ letter_at s.now q }
 {
-    if s.len() <= q {
-        return 0;
-    }
-    if s.len() - q < 2 {
-        return 0;
-    }
-    if s[q + 1] != COMMA {
-        return 0;
-    }
-    s[q]
+    (q < s.len() && s.len() - q >= 2 && s[q + 1] == COMMA).then(|| s[q])
 }
 
-// What stands behind a letter.
-pub const NO_TYPE: u8 = 0;
+// What stands behind the letter of a type.
+#[derive(Clone, Copy, PartialEq, Eq)]
+pub enum Content {
+    Nothing,
+    Labels,
+    RelationshipName,
+    Types,
+}
 
-pub const NOTHING: u8 = 1;
-
-pub const LABELS: u8 = 2;
-
-pub const NAME: u8 = 3;
-
-pub const TYPES: u8 = 4;
-
-// What stands behind the letter k.
-pub fn content(k: u8) -> u8
-    ensures { result ≡ content_of k }
-{
-    match k {
-        ANY => NOTHING,
-        NULL => NOTHING,
-        BOOL => NOTHING,
-        INT => NOTHING,
-        FLOAT => NOTHING,
-        NUM => NOTHING,
-        STRING => NOTHING,
-        DATE => NOTHING,
-        DATETIME => NOTHING,
-        LIST => TYPES,
-        MAP => TYPES,
-        NODE => LABELS,
-        RELATIONSHIP => NAME,
-        PATH => NOTHING,
-        UNION => TYPES,
-        UNKNOWN => NOTHING,
-        _ => NO_TYPE,
+impl Content {
+    // What stands behind the letter k, None where k is no type's.
+    #[tactic(auto, unfolding(crate::specs::Read::content_of, semantics::specs::Ty::letter, semantics::specs::Ty::base_in), using(crate::proofs::Fields::no_content))]
+    pub fn of(k: u8) -> Option<Content>
+        ensures { result ≡ content_of k }
+    {
+        match k {
+            ANY => Some(Content::Nothing),
+            NULL => Some(Content::Nothing),
+            BOOL => Some(Content::Nothing),
+            INT => Some(Content::Nothing),
+            FLOAT => Some(Content::Nothing),
+            NUM => Some(Content::Nothing),
+            STRING => Some(Content::Nothing),
+            DATE => Some(Content::Nothing),
+            DATETIME => Some(Content::Nothing),
+            LIST => Some(Content::Types),
+            MAP => Some(Content::Types),
+            NODE => Some(Content::Labels),
+            RELATIONSHIP => Some(Content::RelationshipName),
+            PATH => Some(Content::Nothing),
+            UNION => Some(Content::Types),
+            UNKNOWN => Some(Content::Nothing),
+            _ => None,
+        }
     }
 }
 
 // Whether a type follows at q inside a type of kind k, of which n were read: one in a list, and up to `!,` in a map or a union.
+#[tactic(auto, unfolding(crate::specs::Read::goes_in))]
 pub fn part_follows(s: &[u8], k: u8, q: usize, n: usize) -> bool
     ensures { result ≡ goes_in k s.now q n }
 {
     if k == LIST {
-        return n == 0;
+        n == 0
+    } else {
+        !is_field(s, q, CLOSE)
     }
-    !is_field(s, q, CLOSE)
 }
 
 // Where the type of the part at q begins: behind the name of a map's entry.
+#[tactic(auto, unfolding(crate::specs::Read::value_at))]
 pub fn value_at(s: &[u8], k: u8, q: usize) -> usize
     requires { q ≤ length s.now }
     ensures { result ≡ value_at k s.now q }
@@ -196,43 +170,32 @@ pub fn value_at(s: &[u8], k: u8, q: usize) -> usize
     if k != MAP {
         return q;
     }
-    let e = text::field_end(s, q);
-    if e < s.len() {
-        return e + 1;
-    }
-    e
+    s.len().min(text::field_end(s, q) + 1)
 }
 
-// Where the type at `at` ends, Bad where its nesting is above `left`.
-pub fn nesting_end(s: &[u8], at: usize, left: usize) -> TypeEnd
+// Where the type at `at` ends, None where its nesting is above `left`.
+pub fn nesting_end(s: &[u8], at: usize, left: usize) -> Option<usize>
     requires { TypeFrom s.now at }
     ensures { NestingEnd s.now at left result }
 {
     if left == 0 {
-        return TypeEnd::Bad;
+        return None;
     }
     let k = s[at];
-    if content(k) < TYPES {
-        return TypeEnd::End(type_end(s, at));
-    }
+    let Some(Content::Types) = Content::of(k) else {
+        return Some(type_end(s, at));
+    };
     let mut q = at + 2;
     let mut n = 0;
     while part_follows(s, k, q, n) {
         let v = value_at(s, k, q);
-        match nesting_end(s, v, left - 1) {
-            TypeEnd::End(e) => {
-                q = e;
-            }
-            TypeEnd::Bad => {
-                return TypeEnd::Bad;
-            }
-        }
+        q = nesting_end(s, v, left - 1)?;
         n += 1;
     }
     if k == LIST {
-        return TypeEnd::End(q);
+        return Some(q);
     }
-    TypeEnd::End(q + 2)
+    Some(q + 2)
 }
 
 // Whether a type line is not too large. (A nesting of n takes 2 * n bytes or more.)
@@ -246,8 +209,5 @@ pub fn fits(s: &[u8]) -> bool
     if s.len() <= 2 * semantics::NESTING_LIMIT {
         return true;
     }
-    match nesting_end(s, 0, semantics::NESTING_LIMIT) {
-        TypeEnd::End(_) => true,
-        TypeEnd::Bad => false,
-    }
+    nesting_end(s, 0, semantics::NESTING_LIMIT).is_some()
 }

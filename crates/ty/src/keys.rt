@@ -2,29 +2,21 @@
 ghost use Rattle.std.specs.Prelude.{◌≡◌, true, ℕ, ◌+◌, ◌≤◌, ◌<◌, length};
 ghost use Rattle.ty.specs.Keys.{key_of, byte_before, head_of, Below, name_key, NameBelow};
 
-// What the first three of four bytes count in a key; the last counts once.
-const FIRST: u32 = 16777216;
-
-const SECOND: u32 = 65536;
-
-const THIRD: u32 = 256;
-
 // Four bytes as one number, so that they are compared at once.
+#[tactic(auto, unfolding(crate::specs::Keys::key_of))]
 fn key_of(a: u8, b: u8, c: u8, d: u8) -> u32
     ensures { result ≡ key_of a b c d }
 {
-    a as u32 * FIRST + b as u32 * SECOND + c as u32 * THIRD + d as u32
+    u32::from_be_bytes([a, b, c, d])
 }
 
 // The byte at i, 0 from `end` on.
+#[tactic(auto, unfolding(crate::specs::Keys::byte_before))]
 fn byte_before(s: &[u8], i: usize, end: usize) -> u8
     requires { end ≤ length s.now }
     ensures { result ≡ byte_before s.now i end }
 {
-    if i < end {
-        return s[i];
-    }
-    0
+    s[..end].get(i).copied().unwrap_or(0)
 }
 
 // Bytes that the beginning of a type is told by.

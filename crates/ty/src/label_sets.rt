@@ -3,11 +3,10 @@ ghost use Rattle.semantics.specs.Limits.{type_limit};
 ghost use Rattle.ty.specs.Merging.{SomeLabels, MergedLabels};
 ghost use Rattle.std.specs.Prelude.{◌+◌, ◌≤◌, length};
 
-use crate::Grown;
 use crate::merging::{Merge, close_line, name_len, next_name, take, taken};
 
 // The labels of the node types at a and b, merged, as a node type at `to`.
-pub fn merge_labels(s: &mut [u8], a: usize, b: usize, to: usize) -> Grown
+pub fn merge_labels(s: &mut [u8], a: usize, b: usize, to: usize) -> Option<usize>
     requires { SomeLabels s.old a to × SomeLabels s.old b to × (to + type_limit ≤ length s.old) }
     ensures { MergedLabels s.old s.new a b to result }
 {
@@ -15,13 +14,11 @@ pub fn merge_labels(s: &mut [u8], a: usize, b: usize, to: usize) -> Grown
     let mut m = Merge {
         p: a + 4,
         q: b + 4,
-        n: 4,
+        n: Some(4),
     };
-    let mut next = next_name(s, m.p, m.q);
-    while next < 3 {
-        let k = name_len(s, taken(m, next));
-        m = take(s, m, next, k, to);
-        next = next_name(s, m.p, m.q);
+    while let Some(side) = next_name(s, m.p, m.q) {
+        let k = name_len(s, taken(m, side));
+        m = take(s, m, side, k, to);
     }
     close_line(s, to, m.n)
 }

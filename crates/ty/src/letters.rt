@@ -1,4 +1,5 @@
-// The letters and marks of type lines (one for each kind of `Type`).
+// The letters and marks of type lines (one for each kind of `Type`). They are bytes of the text, which are compared and written where they
+// stand: an enum of the kinds would be made of a byte and turned back into one at each place. What a letter says of its type is `Content`.
 pub const ANY: u8 = b'A';
 
 pub const NULL: u8 = b'B';

@@ -1,7 +1,8 @@
-// Type lines (ty.rs): where a type ends, its size, the strict reader, the running union, map entries, label sets, type names.
+// Type lines (ty.rs): where a type ends, its size, the reader of each form and the strict form, the running union, map entries, label sets, type names.
 #![tactic(auto)]
 
 mod end;
+mod form;
 mod keys;
 mod label_sets;
 mod letters;
@@ -9,33 +10,26 @@ mod map;
 mod merging;
 mod names;
 mod reader;
+mod strict;
 mod union;
 
 ghost use Rattle.std.specs.Prelude.{◌≡◌};
 ghost use Rattle.semantics.specs.Ty.{Ty, t_list, line};
 ghost use Rattle.ty.specs.Read.{ListLine};
 
-pub use end::{
-    LABELS, NO_TYPE, NOTHING, TYPES, TypeEnd, content, fits, is_field, letter, nesting_end,
-    part_follows, type_end, value_at,
-};
+pub use end::{Content, fits, is_field, letter, nesting_end, part_follows, type_end, value_at};
+pub use form::{Before, Form};
 pub use label_sets::merge_labels;
 pub use letters::{
     ANY, BOOL, CLOSE, FLOAT, INT, LIST, MAP, NODE, NULL, NUM, OPEN, PATH, RELATIONSHIP, STRING,
     UNION, UNKNOWN,
 };
 pub use map::{Spot, entry_spot, insert_entry, put_entry};
-pub use merging::{Merge, close_line, keep, kept, name_len, next_name, take, taken};
+pub use merging::{Merge, Side, close_line, keep, kept, name_len, next_name, take, taken};
 pub use names::type_name;
-pub use reader::{is_name, is_type_line, read_relationship};
+pub use reader::{is_name, read_node, read_relationship, read_type};
+pub use strict::is_type_line;
 pub use union::{add_members, add_union, close_union};
-
-// The length of what was made, or that it is too large.
-#[derive(Drop)]
-pub enum Grown {
-    Len(usize),
-    TooLarge,
-}
 
 // The element of a list type: that part of its line.
 pub fn element(s: &[u8]) -> &[u8]

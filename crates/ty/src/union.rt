@@ -2,109 +2,104 @@
 ghost use Rattle.std.specs.Prelude.{◌≡◌, ◌+◌, ◌≤◌, length};
 ghost use Rattle.ty.specs.Union.{Placing, Placed, Pending, InsertedAny, SomeMembers, Sized, Adding, AddedAll, AddedOpened, wrapped, Closing, Lined, Closed};
 
-use crate::Grown;
 use crate::end::{fits, type_end};
 use crate::keys::{head_of, is_below};
 use crate::letters::{CLOSE, UNION};
-use text::{COMMA, Order};
-
-// Where a member goes, or that it is there already.
-#[derive(Drop)]
-pub enum Slot {
-    At(usize),
-    There,
-}
+use std::cmp::Ordering;
+use text::COMMA;
 
 // The types that are still to go in.
-#[derive(Drop)]
-pub struct Rest {
-    pub from: usize,
-    pub to: usize,
+#[derive(Clone, Copy)]
+struct Rest {
+    from: usize,
+    to: usize,
 }
 
-// Where the type [n..m) goes among the members [0..n).
-pub fn place(part: &[u8], n: usize, m: usize) -> Slot
+// Where the type [n..m) goes among the members [0..n), None if it is there already.
+pub fn place(part: &[u8], n: usize, m: usize) -> Option<usize>
     requires { Placing part.now n m }
     ensures { Placed part.now n m result }
 {
     let x = head_of(part, n, m);
     let mut q = 0;
+    // A member ends where its line does: there is no index to count. (One walk with `entry_spot` would take its ends and its order as closures.)
     while q < n {
         let e = type_end(part, q);
         if is_below(part, q, n, x) {
             q = e;
         } else {
             match text::compare_in(part, q, e, n, m) {
-                Order::Less => {
+                Ordering::Less => {
                     q = e;
                 }
-                Order::Same => {
-                    return Slot::There;
+                Ordering::Equal => {
+                    return None;
                 }
-                Order::More => {
-                    return Slot::At(q);
+                Ordering::Greater => {
+                    return Some(q);
                 }
             }
         }
     }
-    Slot::At(n)
+    Some(n)
 }
 
-// Inserts the first of the types [n..e) into the members [0..n).
-fn add_next(part: &mut [u8], n: usize, e: usize) -> Rest
-    requires { Pending part.old n e }
-    ensures { InsertedAny part.old part.new n e result }
+// Inserts the first of the types that are still to go in into the members before them.
+fn add_next(part: &mut [u8], rest: Rest) -> Rest
+    requires { Pending part.old rest.from rest.to }
+    ensures { InsertedAny part.old part.new rest.from rest.to result }
 {
+    let n = rest.from;
     let m = type_end(part, n);
     match place(part, n, m) {
-        Slot::At(p) => {
+        Some(p) => {
             text::rotate(part, p, n, m);
-            Rest { from: m, to: e }
+            Rest {
+                from: m,
+                to: rest.to,
+            }
         }
-        Slot::There => {
-            text::copy_in(part, m, n, e - m);
+        None => {
+            text::copy_in(part, m, n, rest.to - m);
             Rest {
                 from: n,
-                to: e - (m - n),
+                to: rest.to - (m - n),
             }
         }
     }
 }
 
 // The running union of `len` bytes, if it is not too long.
-fn union_size(part: &[u8], len: usize) -> Grown
+fn union_size(part: &[u8], len: usize) -> Option<usize>
     requires { SomeMembers part.now len }
     ensures { Sized part.now len result }
 {
     if len + 4 <= semantics::TYPE_LIMIT {
-        return Grown::Len(len);
+        return Some(len);
     }
     if len > semantics::TYPE_LIMIT {
-        return Grown::TooLarge;
+        return None;
     }
     if type_end(part, 0) < len {
-        return Grown::TooLarge;
+        return None;
     }
-    Grown::Len(len)
+    Some(len)
 }
 
 // Inserts the types [len..end) into the members [0..len).
-pub fn add_members(part: &mut [u8], len: usize, end: usize) -> Grown
+pub fn add_members(part: &mut [u8], len: usize, end: usize) -> Option<usize>
     requires { Adding part.old len end }
     ensures { AddedAll part.old part.new len end result }
 {
-    let mut n = len;
-    let mut e = end;
-    while n < e {
-        let next = add_next(part, n, e);
-        n = next.from;
-        e = next.to;
+    let mut rest = Rest { from: len, to: end };
+    while rest.from < rest.to {
+        rest = add_next(part, rest);
     }
-    union_size(part, n)
+    union_size(part, rest.from)
 }
 
 // Inserts the type [len..end), flattened, into the members [0..len).
-pub fn add_union(part: &mut [u8], len: usize, end: usize) -> Grown
+pub fn add_union(part: &mut [u8], len: usize, end: usize) -> Option<usize>
     requires { Placing part.old len end }
     ensures { AddedOpened part.old part.new len end result }
 {
@@ -144,13 +139,10 @@ pub fn union_line(part: &mut [u8], len: usize) -> usize
 }
 
 // The same, tested.
-pub fn close_union(part: &mut [u8], len: usize) -> Grown
+pub fn close_union(part: &mut [u8], len: usize) -> Option<usize>
     requires { Closing part.old len }
     ensures { Closed part.old part.new len result }
 {
     let n = union_line(part, len);
-    if fits(&part[..n]) {
-        return Grown::Len(n);
-    }
-    Grown::TooLarge
+    fits(&part[..n]).then_some(n)
 }

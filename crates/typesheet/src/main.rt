@@ -4,8 +4,10 @@
 ghost use Rattle.std.specs.Prelude.{◌≡◌, ◌≤◌, length, take};
 ghost use Rattle.semantics.specs.Bytes.{text};
 ghost use Rattle.semantics.specs.Calls.{sheet_text};
+ghost use Rattle.semantics.specs.Refusals.{number_of};
 ghost use Rattle.report.specs.Report.{NumbersLine};
 
+use semantics::Refused;
 use std::io;
 
 // One byte more than a sheet may have: a longer input fills it, and is refused.
@@ -16,10 +18,11 @@ const REPORT_ROOM: usize = 65536;
 
 // The line of a refusal, at the front of the output: at most 50 bytes. It stands apart from the typing, so that all that prints a number
 // can be looked at for divisions (RULES 10.1).
-fn say_refused(out: &mut [u8], number: u64, place: u64) -> usize
-    ensures { NumbersLine (text "refused,") number place out.old out.new 0 result }
+fn say_refused(out: &mut [u8], refused: Refused) -> usize
+    ensures { NumbersLine (text "refused,") (number_of refused.why) refused.place out.old out.new 0 result }
 {
-    report::refused_line(out, 0, number, place)
+    let number = u64::from(u32::from(refused.why));
+    report::refused_line(out, 0, number, refused.place)
 }
 
 // What is printed of a sheet, at the front of the output: its length.
@@ -28,11 +31,10 @@ fn print_sheet(sheet: &[u8], out: &mut [u8]) -> usize
     ensures { (result ≤ length out.old) × (take result out.new ≡ sheet_text (length out.old) sheet.now) }
 {
     let mut work = [0u8; semantics::WORK_SIZE];
-    let c = typing::infer_types(sheet, &mut work, out);
-    if c.number == semantics::ACCEPTED {
-        return c.first as usize;
+    match typing::infer_types(sheet, &mut work, out) {
+        Ok(len) => len,
+        Err(refused) => say_refused(out, refused),
     }
-    say_refused(out, c.number as u64, c.first)
 }
 
 fn main(rt: HostRuntime) -> io::Result<()> {

@@ -2,103 +2,106 @@
 use mathlib.Core.Path.{◌≡◌, refl, sym, ◌∙◌, ap, subst}
 use mathlib.Core.List.{List, [], ◌++◌, append_assoc, append-nil}
 use mathlib.Core.Option.{Option, none, some}
-use Prim.Native.Nat.{ℕ, ◌+◌, ◌-◌, ◌*◌, ◌≤◌, ◌<◌}
+use Prim.Native.Nat.{ℕ, ◌+◌, ◌*◌, ◌≤◌}
 use native.Mathlib.Omega.{arith}
-use lib.ListN.{length, take, drop}
-use lib.Seq.{length-sets}
+use lib.ListN.{length}
+use Rattle.std.specs.Prelude.{Option as Given, Some, None, Err}
 use Rattle.semantics.specs.Bytes.{Bytes, text}
+use Rattle.semantics.specs.Refusals.{number_of}
+use Rattle.semantics.specs.declared.refusals.Refused.{Refused}
+use Rattle.semantics.specs.declared.refusals.Refusal.TheVariants.{WrongSize}
 use Rattle.report.specs.Report.{Appends, numbers_text}
 use Rattle.report.proofs.ReportLaws.{◌▹◌}
 use Rattle.stores.specs.Catalogue.{Live, Catalogue, read_store}
-use Rattle.catalogue.specs.Places.{at16, at32, Run, Laid}
+use Rattle.catalogue.specs.Places.{Run, Laid}
+use Rattle.catalogue.specs.Entries.{Gives}
 use Rattle.catalogue.specs.Stands.{Opened}
-use Rattle.catalogue.proofs.PlaceLaws.{run-le, First, first, nothing_left, Walk, part-text}
-use Rattle.catalogue.specs.Checks.{check_of}
-use Rattle.catalogue.specs.declared.form.Checked.TheVariants.{Bad}
-use Rattle.catalogue.proofs.CallLaws.{no_store}
+use Rattle.catalogue.specs.Checks.{no_store, check_of}
+use Rattle.catalogue.specs.declared.find.Entry.{Entry}
+use Rattle.catalogue.specs.declared.find.Entries.{Entries}
+use Rattle.catalogue.proofs.PlaceLaws.{run-le, turn, stop, Begins, begins}
+use Rattle.catalogue.proofs.CallLaws.{unread}
 use Rattle.catalogue.proofs.Bytewise.{known, run_inside}
-use Rattle.typestore.specs.Answers.{line_text, lives_text, list_text, Says, Lines, Lists}
+use Rattle.typestore.specs.Answers.{line_text, lives_text, list_text, said_number, Refuses, Lines, Lists}
 use Rattle.typestore.specs.declared.answer.Said.{Said}
 use Rattle.typestore.specs.declared.list.Listed.{Listed}
 
 -- of a list of live types some are listed, and `rest` is left
-pub record Passed (s : Bytes) (end : ℕ) (out₀ out : Bytes) (at fill types : ℕ) (ls : List Live) : Type 0 where
+pub record Passed (it : Entries) (out₀ out : Bytes) (fill types : ℕ) (ls : List Live) : Type 0 where
   pub rest : List Live
-  pub run : Run s at rest end
+  pub run : Run it.store.now it.at rest it.end
   pub done : Bytes
   pub whole : lives_text ls ≡ done ++ lives_text rest
   pub written : Appends done out₀ out 0 fill
   pub count : length ls ≡ types + length rest
 
-pub record Gone (s : Bytes) (end : ℕ) (out₀ out : Bytes) (at fill types : ℕ) : Type 0 where
-  pub left : (ls : List Live) → Run s 8 ls end → Passed s end out₀ out at fill types ls
-  pub short : fill + 48 ≤ 6 * at
-  pub few : types ≤ at
-  pub inside : at ≤ end
+pub record Gone (s : Bytes) (end : ℕ) (out₀ out : Bytes) (it : Entries) (fill types : ℕ) : Type 0 where
+  pub left : (ls : List Live) → Run s 8 ls end → Passed it out₀ out fill types ls
+  pub short : fill + 48 ≤ 6 * it.at
+  pub few : types ≤ it.at
+  pub inside : it.at ≤ end
+  pub ends : it.end ≡ end
 
-pub gone-start : (s : Bytes) (end : ℕ) (out : Bytes) → Laid s 8 end → Gone s end out out 8 0 0
-gone-start s end out laid =
+pub gone-start : (s : Bytes) (end : ℕ) (out : Bytes) (it : Entries) → Begins it s 8 end → Laid s 8 end → Gone s end out out it 0 0
+gone-start s end out it b laid =
+    let k = run-le s 8 laid.0 end laid.1 in
+    let a = b.1 in
     record {
-      left = λ ls r. record { rest = ls; run = r; done = []; whole = refl; written = record { text = refl; end = refl }; count = omega arith };
+      left = λ ls r. record { rest = ls; run = begins it s 8 end b ls r; done = []; whole = refl; written = record { text = refl; end = refl }; count = omega arith };
       short = omega arith;
       few = omega arith;
-      inside = run-le s 8 laid.0 end laid.1;
+      inside = omega arith;
+      ends = b.2;
     }
 
-pub gone-walk : {s : Bytes} {end : ℕ} {out₀ out : Bytes} {at fill types : ℕ} → Gone s end out₀ out at fill types → Walk {A = ℕ} (λ (n : ℕ) (ls : List Live). 0) s 8 at end
-gone-walk g ls r = let x = g.left ls r in record { rest = x.rest; run = x.run; same = refl }
+same_line : {n m u v : ℕ} (t : Bytes) → n ≡ m → u ≡ v → line_text n u t ≡ line_text m v t
+same_line t p q = cc
 
-same_line : {n m u v : ℕ} {t x : Bytes} → n ≡ m → u ≡ v → t ≡ x → line_text n u t ≡ line_text m v x
-same_line p q e = cc
+module _ (s : Bytes) (end : ℕ) (out₀ out : Bytes) (it t : Entries) (fill types : ℕ) (o : Given Entry) (g : Gone s end out₀ out it fill types) (laid : Laid s 8 end) (gives : Gives it o t) where
+  module _ (e : Entry) (p : o ≡ Some e) where
+    -- where the next one stands
+    pub gone-behind : (t.at ≡ it.at + 8 + length e.text.now) × (t.at ≤ end) × (t.end ≡ end)
+    gone-behind =
+        let x = g.left laid.0 laid.1 in
+        let f = turn it o t gives e p x.rest x.run in
+        let k = run-le t.store.now t.at f.others t.end f.run in
+        let n = f.end ∙ g.ends in
+        (f.behind, omega arith, n)
 
-pub gone-next : (s : Bytes) (end : ℕ) (out₀ out out' : Bytes) (at fill types next n u fill' : ℕ) → Gone s end out₀ out at fill types → Laid s 8 end → at < end
-    → next ≡ at + 8 + at16 s (at + 2) → n ≡ at16 s at → u ≡ at32 s (at + 4)
-    → Appends (line_text n u (take (next - (at + 8)) (drop (at + 8) s))) out out' fill fill' → fill' ≤ fill + length (take (next - (at + 8)) (drop (at + 8) s)) + 48
-    → Gone s end out₀ out' next fill' (types + 1)
-unfolding lives_text
-gone-next s end out₀ out out' at fill types next n u fill' g laid h e p q w b =
-    let x = here in
-    let k = x.here.long in
-    let t = ap length (part-text s at x.l x.here next e) in
-    let i = run-le s (at + 8 + length x.l.text) x.others end x.run in
-    record { left = more; short = let a = g.short in omega arith; few = let a = g.few in omega arith; inside = omega arith }
-  where
-    here : First s at end (g.left laid.0 laid.1).rest
-    here = let x = g.left laid.0 laid.1 in first s at end x.rest h x.run
+    pub gone-next : (out' : Bytes) (n u fill' : ℕ) → n ≡ e.number → u ≡ e.uses → Appends (line_text n u e.text.now) out out' fill fill' → fill' ≤ fill + length e.text.now + 48
+        → Gone s end out₀ out' t fill' (types + 1)
+    unfolding lives_text
+    gone-next out' n u fill' a b w m =
+        let h = gone-behind in
+        let h0 = h.0 in
+        let h1 = h.1 in
+        record { left = more; short = let c = g.short in omega arith; few = let c = g.few in omega arith; inside = h1; ends = h.2 }
+      where
+        more : (ls : List Live) → Run s 8 ls end → Passed t out₀ out' fill' (types + 1) ls
+        more ls r =
+            let x = g.left ls r in
+            let f = turn it o t gives e p x.rest x.run in
+            let one = line_text e.number e.uses e.text.now in
+            let c = x.count ∙ ap (λ (v : List Live). types + length v) f.is in
+            record {
+              rest = f.others;
+              run = f.run;
+              done = x.done ++ one;
+              whole = x.whole ∙ ap (λ (v : List Live). x.done ++ lives_text v) f.is ∙ sym (append_assoc x.done one (lives_text f.others));
+              written = x.written ▹ subst (λ (v : Bytes). Appends v out out' fill fill') (same_line e.text.now a b) w;
+              count = omega arith;
+            }
 
-    more : (ls : List Live) → Run s 8 ls end → Passed s end out₀ out' next fill' (types + 1) ls
-    more ls r =
-        let x = g.left ls r in
-        let y = first s at end x.rest h x.run in
-        let l = y.l in
-        let k = y.here.long in
-        let m : at + 8 + length l.text ≡ next = omega arith in
-        let t = part-text s at l y.here next e in
-        let z : line_text n u (take (next - (at + 8)) (drop (at + 8) s)) ≡ line_text l.number l.uses l.text = same_line (p ∙ y.here.number) (q ∙ y.here.uses) t in
-        let one = line_text l.number l.uses l.text in
-        let c = x.count ∙ ap (λ (v : List Live). types + length v) y.is in
-        record {
-          rest = y.others;
-          run = subst (λ (v : ℕ). Run s v y.others end) m y.run;
-          done = x.done ++ one;
-          whole = x.whole ∙ ap (λ (v : List Live). x.done ++ lives_text v) y.is ∙ sym (append_assoc x.done one (lives_text y.others));
-          written = x.written ▹ subst (λ (v : Bytes). Appends v out out' fill fill') z w;
-          count = omega arith;
-        }
-
-pub gone-end : (s : Bytes) (end : ℕ) (out₀ out : Bytes) (at fill types : ℕ) (r : Listed) → Gone s end out₀ out at fill types → end ≤ at → r.fill ≡ fill → r.types ≡ types → Lines s end out₀ out r
-unfolding lives_text
-gone-end s end out₀ out at fill types r g h f t =
-    record {
-      text = λ ls w. let x = g.left ls w in let e = nothing_left s at end x.rest h x.run in
-          let d : lives_text ls ≡ x.done = x.whole ∙ ap (λ (v : List Live). x.done ++ lives_text v) e ∙ append-nil x.done in
-          subst (λ (n : ℕ). Appends (lives_text ls) out₀ out 0 n) (sym f) (subst (λ (v : Bytes). Appends v out₀ out 0 fill) (sym d) x.written);
-      count = λ ls w. let x = g.left ls w in let e = ap (λ (v : List Live). length v) (nothing_left s at end x.rest h x.run) in let c = x.count in omega arith;
-      short = let a = g.short in let b = g.inside in omega arith;
-    }
-
-pub gone-length : (s : Bytes) (end : ℕ) (out₀ out : Bytes) (at fill types : ℕ) → Gone s end out₀ out at fill types → Laid s 8 end → length out ≡ length out₀
-gone-length s end out₀ out at fill types g laid = let x = g.left laid.0 laid.1 in ap length x.written.text ∙ length-sets out₀ 0 x.done
+  pub gone-end : o ≡ None → Lines s end out₀ out (record { fill = fill; types = types })
+  unfolding lives_text
+  gone-end p =
+      record {
+        text = λ ls w. let x = g.left ls w in let e = stop it o t gives p x.rest x.run in
+            let d : lives_text ls ≡ x.done = x.whole ∙ ap (λ (v : List Live). x.done ++ lives_text v) e ∙ append-nil x.done in
+            subst (λ (v : Bytes). Appends v out₀ out 0 fill) (sym d) x.written;
+        count = λ ls w. let x = g.left ls w in let e = ap (λ (v : List Live). length v) (stop it o t gives p x.rest x.run) in let c = x.count in omega arith;
+        short = let a = g.short in let b = g.inside in omega arith;
+      }
 
 -- ## The whole list
 
@@ -118,7 +121,7 @@ one_list o a b p q = cc
 not-both : (o : Option Catalogue) (a : Catalogue) → o ≡ some a → o ≡ none → ⊥
 not-both o a p q = let w : ◌≡◌ {A = ℕ} 0 1 = cc in omega arith
 
-pub listed : (s : Bytes) (last end : ℕ) (out out₁ out' : Bytes) (l : Listed) (r : Said) → Opened s last end → Lines s end out out₁ l → r.number ≡ 0
+pub listed : (s : Bytes) (last end : ℕ) (out out₁ out' : Bytes) (l : Listed) (r : Said) → Opened s last end → Lines s end out out₁ l → said_number r.refusal ≡ 0
     → Appends (numbers_text (text "end,") l.types last) out₁ out' l.fill r.length → r.length ≤ l.fill + 46 → Lists s out out' r
 listed s last end out out₁ out' l r o p n w b =
     record {
@@ -134,10 +137,10 @@ listed s last end out out₁ out' l r o p n w b =
       short = let a = p.short in let k = (opened-room s last end o).1 in omega arith;
     }
 
-pub not_listed : (s out out' : Bytes) (r : Said) → Bad ≡ check_of (read_store s) → Says 64 [] 2 0 out out' r → Lists s out out' r
-not_listed s out out' r e p =
+pub not_listed : (s out out' : Bytes) (w : Refused) (r : Said) → Err no_store ≡ check_of (read_store s) → w ≡ record { why = WrongSize; place = 0 } → Refuses w out out' r → Lists s out out' r
+not_listed s out out' w r e q p =
     record {
-      no = λ q. (p.number, p.text);
-      yes = λ c q. absurd (not-both (read_store s) c q (no_store s e));
+      no = λ z. (ap said_number p.why ∙ ap (λ (x : Refused). number_of x.why) q, subst (λ (x : Refused). Appends (numbers_text (text "refused,") (number_of x.why) x.place) out out' 0 r.length) q p.text);
+      yes = λ c z. absurd (not-both (read_store s) c z (unread s e));
       short = let h = p.short in omega arith;
     }

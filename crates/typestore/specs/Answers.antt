@@ -1,7 +1,10 @@
 -- What the program prints of a call on a store (RULES 10.4, ask 12; docs/DECISIONS.md, 66).
-use Rattle.std.specs.Prelude.{◌≡◌, List, [], ◌∷◌, ◌++◌, true, false, ℕ, ◌+◌, ◌*◌, ◌≤◌, eqb, length}
+use Rattle.std.specs.Prelude.{◌≡◌, List, [], ◌∷◌, ◌++◌, true, false, ℕ, ◌+◌, ◌*◌, ◌≤◌, eqb, length, Option, Some, None}
 use Rattle.std.proofs.Math.Option.{none, some}
 use Rattle.semantics.specs.Codes.{line_feed, comma}
+use Rattle.semantics.specs.Refusals.{number_of}
+use Rattle.semantics.specs.declared.refusals.Refusal.{Refusal}
+use Rattle.semantics.specs.declared.refusals.Refused.{Refused}
 use Rattle.semantics.specs.Bytes.{Bytes, text, shown}
 use Rattle.report.specs.Report.{Appends, numbers_text, end_text}
 use Rattle.stores.specs.Catalogue.{store_head, Live, Catalogue, Ask, entering, releasing, looking_up, Told, read_store, store_call}
@@ -22,18 +25,23 @@ done_text (looking_up n) r = line_text n r.first r.text
 abbrev pub said_text : Bytes → ℕ → ℕ → Bytes
 said_text t n place = elim (eqb n 0) [ true ↦ t | false ↦ numbers_text (text "refused,") n place ]
 
--- a number and its line are said
-pub record Says (bound : ℕ) (t : Bytes) (n place : ℕ) (out out' : Bytes) (r : Said) : Type 0 where
-  pub number : r.number ≡ n
-  pub text : Appends (said_text t n place) out out' 0 r.length
-  pub short : r.length ≤ bound
+-- the number of what was said: 0 where it was accepted
+abbrev pub said_number : Option Refusal → ℕ
+said_number None = 0
+said_number (Some why) = number_of why
+
+-- a refusal is said
+pub record Refuses (w : Refused) (out out' : Bytes) (r : Said) : Type 0 where
+  pub why : r.refusal ≡ Some w.why
+  pub text : Appends (numbers_text (text "refused,") (number_of w.why) w.place) out out' 0 r.length
+  pub short : r.length ≤ 64
 
 abbrev pub answer_text : Ask → Told → Bytes
 answer_text a r = said_text (done_text a r) r.number r.first
 
 -- a call was made: its number, the store that it leaves and the text of its answer are those of the definition
 pub record Answers (a : Ask) (s s' out out' : Bytes) (r : Said) : Type 0 where
-  pub number : r.number ≡ (store_call s a).told.number
+  pub number : said_number r.refusal ≡ (store_call s a).told.number
   pub store : s' ≡ (store_call s a).store
   pub text : Appends (answer_text a (store_call s a).told) out out' 0 r.length
   pub short : r.length ≤ length s + 64
@@ -54,6 +62,6 @@ pub record Lines (s : Bytes) (end : ℕ) (out out' : Bytes) (r : Listed) : Type 
   pub short : r.fill + 48 ≤ 6 * end
 
 pub record Lists (s out out' : Bytes) (r : Said) : Type 0 where
-  pub no : read_store s ≡ none → (r.number ≡ 2) × Appends (numbers_text (text "refused,") 2 0) out out' 0 r.length
-  pub yes : (c : Catalogue) → read_store s ≡ some c → (r.number ≡ 0) × Appends (list_text c) out out' 0 r.length
+  pub no : read_store s ≡ none → (said_number r.refusal ≡ 2) × Appends (numbers_text (text "refused,") 2 0) out out' 0 r.length
+  pub yes : (c : Catalogue) → read_store s ≡ some c → (said_number r.refusal ≡ 0) × Appends (list_text c) out out' 0 r.length
   pub short : r.length ≤ 393216

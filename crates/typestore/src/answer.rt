@@ -1,69 +1,67 @@
 // A call on a store and the line that says what came of it.
-ghost use Rattle.std.specs.Prelude.{◌+◌, ◌≤◌, ◌<◌, ◌^◌, length};
-ghost use Rattle.stores.specs.Catalogue.{entering, releasing, looking_up};
-ghost use Rattle.report.specs.Report.{numbers_text};
-ghost use Rattle.typestore.specs.Answers.{line_text, Says, Answers};
+ghost use Rattle.std.specs.Prelude.{◌≡◌, ◌+◌, ◌<◌, ◌^◌, length};
+ghost use Rattle.report.specs.Report.{NumbersLine};
+ghost use Rattle.semantics.specs.Refusals.{number_of};
+ghost use Rattle.stores.specs.Catalogue.{Ask, entering, releasing, looking_up};
+ghost use Rattle.typestore.specs.Answers.{Refuses, Answers};
 
 use crate::list::live_line;
+use semantics::{Refusal, Refused};
 
-// The number of a call, and the length of the text.
-#[derive(Drop)]
+// What was printed of a call: why it was refused, if it was, and the length of the text.
+#[derive(Clone, Copy)]
 pub struct Said {
-    pub number: u32,
+    pub refusal: Option<Refusal>,
     pub length: usize,
 }
 
-// What came of a call that answers with numbers: a word and two numbers, or the refusal.
-fn say(out: &mut [u8], word: &[u8], c: catalogue::Call, first: u64, second: u64) -> Said
-    requires { length word.now ≤ 16 }
-    ensures { Says 64 (numbers_text word.now first second) c.number c.first out.old out.new result }
+// The line of a refusal.
+pub fn say_refused(out: &mut [u8], refused: Refused) -> Said
+    ensures { Refuses refused out.old out.new result }
 {
-    let number = c.number;
-    if number == semantics::ACCEPTED {
-        return Said {
-            number: number,
-            length: report::numbers_line(out, 0, word, first, second),
-        };
-    }
+    let number = u64::from(u32::from(refused.why));
     Said {
-        number: number,
-        length: report::refused_line(out, 0, number as u64, c.first),
+        refusal: Some(refused.why),
+        length: report::refused_line(out, 0, number, refused.place),
     }
+}
+
+// The line of a call that answers two numbers. It stands apart from the calls, so that all that prints a number can be looked at for
+// divisions (RULES 10.1).
+fn numbers_line(out: &mut [u8], head: &[u8], first: u64, second: u64) -> usize
+    requires { length head.now + 42 < 2 ^ 64 }
+    ensures { NumbersLine head.now first second out.old out.new 0 result }
+{
+    report::numbers_line(out, 0, head, first, second)
 }
 
 // Enters a type.
 pub fn enter(store: &mut [u8], line: &[u8], out: &mut [u8]) -> Said
     ensures { Answers (entering line.now) store.old store.new out.old out.new result }
 {
-    let c = catalogue::enter(store, line);
-    let first = c.first;
-    let second = c.second;
-    say(out, b"entered,", c, first, second)
+    match catalogue::enter(store, line) {
+        Ok(entered) => {
+            let number = u64::from(entered.number);
+            let uses = u64::from(entered.uses);
+            Said {
+                refusal: None,
+                length: numbers_line(out, b"entered,", number, uses),
+            }
+        }
+        Err(refused) => say_refused(out, refused),
+    }
 }
 
 // Releases a use of a type.
 pub fn release(store: &mut [u8], number: u64, out: &mut [u8]) -> Said
     ensures { Answers (releasing number) store.old store.new out.old out.new result }
 {
-    let c = catalogue::release(store, number);
-    let uses = c.first;
-    say(out, b"released,", c, number, uses)
-}
-
-// What came of a look-up. A refusal has no uses, and its place is that 0.
-fn say_line(out: &mut [u8], number: u64, cause: u32, uses: u64, line: &[u8]) -> Said
-    requires { length line.now + 64 < 2 ^ 64 }
-    ensures { Says (length line.now + 64) (line_text number uses line.now) cause uses out.old out.new result }
-{
-    if cause == 0 {
-        return Said {
-            number: cause,
-            length: live_line(out, 0, number, uses, line),
-        };
-    }
-    Said {
-        number: cause,
-        length: report::refused_line(out, 0, cause as u64, uses),
+    match catalogue::release(store, number) {
+        Ok(uses) => Said {
+            refusal: None,
+            length: numbers_line(out, b"released,", number, u64::from(uses)),
+        },
+        Err(refused) => say_refused(out, refused),
     }
 }
 
@@ -71,8 +69,14 @@ fn say_line(out: &mut [u8], number: u64, cause: u32, uses: u64, line: &[u8]) -> 
 pub fn show(store: &[u8], number: u64, out: &mut [u8]) -> Said
     ensures { Answers (looking_up number) store.now store.now out.old out.new result }
 {
-    let l = catalogue::find_line(store, number);
-    let at = l.at;
-    let end = l.end;
-    say_line(out, number, l.number, l.uses, &store[at..end])
+    match catalogue::look_up(store, number) {
+        Ok(found) => {
+            let uses = u64::from(found.uses);
+            Said {
+                refusal: None,
+                length: live_line(out, 0, number, uses, found.line),
+            }
+        }
+        Err(refused) => say_refused(out, refused),
+    }
 }

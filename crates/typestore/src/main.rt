@@ -5,33 +5,40 @@
 mod answer;
 mod list;
 
-ghost use Rattle.std.specs.Prelude.{◌≡◌, ◌≤◌, length};
-ghost use Rattle.typestore.specs.Files.{Within};
+ghost use Rattle.std.specs.Prelude.{◌≡◌, ◌≤◌, length, IfOk};
 
 use answer::{Said, enter, release, show};
 use catalogue::STORE_SIZE;
+use semantics::Refusal;
 use std::env::FillError;
 use std::fs::{File, OpenFile, OpenOptions};
 use std::io::{ErrorKind, Write};
 use std::rt::{Env, Files};
 use std::str::from_utf8;
 use std::{fs, io};
-use text::Dec;
 
+// What is asked, with the line or the number.
 #[derive(Clone, Copy)]
-enum Verb {
-    Enter,
-    Release,
-    Show,
+enum Call<'a> {
+    Enter(&'a [u8]),
+    Release(u64),
+    Show(u64),
     List,
-    Nothing,
 }
 
-// How many bytes of a file were read; one that is missing is the empty store.
+// The file, the new one that takes its place where it changes, and what is asked of it.
+#[derive(Clone, Copy)]
+struct Request<'a> {
+    path: &'a str,
+    beside: &'a str,
+    call: Call<'a>,
+}
+
+// What the system refused, and of which file.
 #[derive(Drop)]
-enum Read {
-    Is(usize),
-    Failed,
+struct Failure<'a> {
+    what: &'a str,
+    reason: io::Error,
 }
 
 // One byte more: a longer file fills it, and is refused.
@@ -60,275 +67,195 @@ fn usage(rt: &impl Print) {
 }
 
 // What the system refused: the reason goes to standard error.
-fn failed(rt: &(impl Print + Eprint), what: &str, reason: io::Error) {
+fn failed(rt: &(impl Print + Eprint), failure: Failure) {
+    let what = failure.what;
+    let reason = failure.reason;
     let _ = eprintln!(rt; "{what}: {reason}");
     print(rt, b"failed\n");
 }
 
-// A path is text in the kit's library.
-fn no_name(rt: &(impl Print + Eprint)) {
-    let reason = io::Error::new(ErrorKind::InvalidFilename, "the name is not UTF-8");
-    failed(rt, "FILE", reason);
-}
-
 // What came of a call; a file that is no catalogue is named on standard error.
-fn say(rt: &(impl Print + Eprint), path: &str, number: u32, text: &[u8]) {
-    print(rt, text);
-    if number == semantics::WRONG_SIZE {
+fn say(rt: &(impl Print + Eprint), path: &str, said: Said, out: &[u8])
+    requires { said.length ≤ length out.now }
+{
+    let end = said.length;
+    print(rt, &out[..end]);
+    if said.refusal == Some(Refusal::WrongSize) {
         let _ = eprintln!(rt; "{path}: no catalogue");
     }
 }
 
-// `list` has no third word, the others have one.
-fn asked(word: &[u8], args: usize) -> Verb {
-    if text::same(word, b"list") {
-        if args == 3 {
-            return Verb::List;
-        }
-        return Verb::Nothing;
-    }
-    if args != 4 {
-        return Verb::Nothing;
-    }
-    if text::same(word, b"enter") {
-        return Verb::Enter;
-    }
-    if text::same(word, b"release") {
-        return Verb::Release;
-    }
-    if text::same(word, b"show") {
-        return Verb::Show;
-    }
-    Verb::Nothing
-}
-
 // A word that is no number of 64 bits is no live number, as 0 is none.
 fn number(word: &[u8]) -> u64 {
-    match text::decimal(word) {
-        Dec::Is(n) => n,
-        Dec::Over => 0,
-        Dec::Bad => 0,
+    text::decimal(word).unwrap_or(0)
+}
+
+// `list` has no third word, the others have one.
+fn call_of<'a>(verb: &[u8], word: &'a [u8], args: usize) -> Option<Call<'a>> {
+    match (verb, args) {
+        (b"list", 3) => Some(Call::List),
+        (b"enter", 4) => Some(Call::Enter(word)),
+        (b"release", 4) => Some(Call::Release(number(word))),
+        (b"show", 4) => Some(Call::Show(number(word))),
+        _ => None,
     }
 }
 
 // The call on the bytes of a file.
-fn call(verb: Verb, word: &[u8], store: &mut [u8], out: &mut [u8]) -> Said
+fn answer_to(call: Call, store: &mut [u8], out: &mut [u8]) -> Said
     ensures { length store.old ≤ 65537 → result.length ≤ 393216 }
 {
-    match verb {
-        Verb::Enter => enter(store, word, out),
-        Verb::Release => release(store, number(word), out),
-        Verb::Show => show(store, number(word), out),
-        Verb::List => list::list(store, out),
-        Verb::Nothing => Said {
-            number: semantics::ACCEPTED,
-            length: 0,
-        },
+    match call {
+        Call::Enter(line) => enter(store, line, out),
+        Call::Release(number) => release(store, number, out),
+        Call::Show(number) => show(store, number, out),
+        Call::List => list::list(store, out),
     }
 }
 
-// What is read of a file, and whether the system failed is told.
-fn read_store<R: Files + Print + Eprint>(rt: &R, path: &str, store: &mut [u8]) -> Read
+// How many bytes of a file were read; one that is missing is the empty store.
+fn read_store<'a, R: Files>(rt: &R, path: &'a str, store: &mut [u8]) -> Result<usize, Failure<'a>>
     requires { 65536 ≤ length store.old }
-    ensures { Within (length store.new) result }
+    ensures { IfOk result (λ n. n ≤ length store.new) }
 {
     let mut file = match File::open(rt, path) {
         Ok(file) => file,
-        Err(e) => {
-            if e.kind() == ErrorKind::NotFound {
-                return Read::Is(STORE_SIZE);
+        Err(reason) => {
+            if reason.kind() == ErrorKind::NotFound {
+                return Ok(STORE_SIZE);
             }
-            failed(rt, path, e);
-            return Read::Failed;
+            return Err(Failure { what: path, reason });
         }
     };
-    match input::read_full(&mut file, store) {
-        Ok(n) => Read::Is(n),
-        Err(e) => {
-            failed(rt, path, e);
-            Read::Failed
-        }
-    }
+    input::read_full(&mut file, store).map_err(|reason| Failure { what: path, reason })
 }
 
-// Whether all of a new file's bytes are on their device.
-fn write_store<R: Files + Print + Eprint>(rt: &R, file: R::File, name: &str, store: &[u8]) -> bool {
+// Writes a new file: all of its bytes are then on their device.
+fn write_store(file: impl Write + OpenFile + Drop, store: &[u8]) -> io::Result<()> {
     let mut file = file;
-    if let Err(e) = file.write_all(store) {
-        failed(rt, name, e);
-        return false;
-    }
-    if let Err(e) = file.sync_all() {
-        failed(rt, name, e);
-        return false;
-    }
-    true
+    file.write_all(store)?;
+    file.sync_all()
 }
 
-// Whether the new file, with these bytes, has become the old one.
-fn replace<R: Files + Print + Eprint>(
+// Writes the new file, which takes the old one's place.
+fn replace<'a, R: Files>(
     rt: &R,
     file: R::File,
-    path: &str,
-    beside: &str,
+    request: Request<'a>,
     store: &[u8],
-) -> bool {
-    if !write_store(rt, file, beside, store) {
-        return false;
-    }
-    if let Err(e) = fs::rename(rt, beside, path) {
-        failed(rt, path, e);
-        return false;
-    }
-    true
+) -> Result<(), Failure<'a>> {
+    let path = request.path;
+    let beside = request.beside;
+    write_store(file, store).map_err(|reason| Failure {
+        what: beside,
+        reason,
+    })?;
+    fs::rename(rt, beside, path).map_err(|reason| Failure { what: path, reason })
 }
 
 // The call, and whether the new file has become the old one: not where the call changes nothing.
-fn settle<R: Files + Print + Eprint>(
+fn settle<'a, R: Files + Print + Eprint>(
     rt: &R,
     file: R::File,
-    verb: Verb,
-    path: &str,
-    beside: &str,
-    word: &[u8],
+    request: Request<'a>,
     store: &mut [u8],
     out: &mut [u8],
-) -> bool
-    requires { (length store.old ≤ 65537) × (393216 ≤ length out.old) }
-{
-    let said = call(verb, word, store, out);
-    let number = said.number;
-    let end = said.length;
-    let mut is_new = false;
-    if number == semantics::ACCEPTED {
-        is_new = replace(rt, file, path, beside, store);
-        if !is_new {
-            return false;
-        }
-    }
-    say(rt, path, number, &out[..end]);
-    is_new
-}
-
-fn settle_file<R: Files + Print + Eprint>(
-    rt: &R,
-    file: R::File,
-    verb: Verb,
-    path: &str,
-    beside: &str,
-    word: &[u8],
-    store: &mut [u8],
-    out: &mut [u8],
-) -> bool
+) -> Result<bool, Failure<'a>>
     requires { (length store.old ≡ 65537) × (393216 ≤ length out.old) }
 {
-    let Read::Is(n) = read_store(rt, path, store) else {
-        return false;
-    };
-    settle(rt, file, verb, path, beside, word, &mut store[..n], out)
+    let n = read_store(rt, request.path, store)?;
+    let said = answer_to(request.call, &mut store[..n], out);
+    let is_new = said.refusal.is_none();
+    if is_new {
+        replace(rt, file, request, &store[..n])?;
+    }
+    say(rt, request.path, said, out);
+    Ok(is_new)
 }
 
 // Enter and release: the new file is made first, so that no two change one store at a time.
-fn change<R: Files + Print + Eprint>(
+fn change<'a, R: Files + Print + Eprint>(
     rt: &R,
-    verb: Verb,
-    path: &[u8],
-    word: &[u8],
+    request: Request<'a>,
     store: &mut [u8],
     out: &mut [u8],
-)
-    requires { (length path.now ≤ 4096) × (length store.old ≡ 65537) × (393216 ≤ length out.old) }
+) -> Result<(), Failure<'a>>
+    requires { (length store.old ≡ 65537) × (393216 ≤ length out.old) }
 {
-    let mut name = [0u8; NAME_ROOM];
-    let n = text::append(&mut name, 0, path);
-    let end = text::append(&mut name, n, b".new");
-    let (Ok(path), Ok(beside)) = (from_utf8(path), from_utf8(&name[..end])) else {
-        no_name(rt);
-        return;
-    };
-    let file = match OpenOptions::new()
+    let beside = request.beside;
+    let file = OpenOptions::new()
         .write(true)
         .create_new(true)
         .open(rt, beside)
-    {
-        Ok(file) => file,
-        Err(e) => {
-            failed(rt, beside, e);
-            return;
-        }
-    };
-    if !settle_file(rt, file, verb, path, beside, word, store, out) {
+        .map_err(|reason| Failure {
+            what: beside,
+            reason,
+        })?;
+    let settled = settle(rt, file, request, store, out);
+    if !matches!(settled, Ok(true)) {
         let _ = fs::remove_file(rt, beside);
     }
-}
-
-fn tell(
-    rt: &(impl Print + Eprint),
-    verb: Verb,
-    path: &str,
-    word: &[u8],
-    store: &mut [u8],
-    out: &mut [u8],
-)
-    requires { (length store.old ≤ 65537) × (393216 ≤ length out.old) }
-{
-    let said = call(verb, word, store, out);
-    let end = said.length;
-    say(rt, path, said.number, &out[..end]);
+    settled.map(|_| ())
 }
 
 // Show and list.
-fn look<R: Files + Print + Eprint>(
+fn look<'a, R: Files + Print + Eprint>(
     rt: &R,
-    verb: Verb,
-    path: &[u8],
-    word: &[u8],
+    request: Request<'a>,
     store: &mut [u8],
     out: &mut [u8],
-)
+) -> Result<(), Failure<'a>>
     requires { (length store.old ≡ 65537) × (393216 ≤ length out.old) }
 {
-    let Ok(path) = from_utf8(path) else {
-        no_name(rt);
-        return;
-    };
-    let Read::Is(n) = read_store(rt, path, store) else {
-        return;
-    };
-    tell(rt, verb, path, word, &mut store[..n], out);
+    let n = read_store(rt, request.path, store)?;
+    let said = answer_to(request.call, &mut store[..n], out);
+    say(rt, request.path, said, out);
+    Ok(())
 }
 
-fn run<R: Files + Print + Eprint>(
+fn run<'a, R: Files + Print + Eprint>(
     rt: &R,
-    verb: Verb,
-    path: &[u8],
-    word: &[u8],
+    request: Request<'a>,
     store: &mut [u8],
     out: &mut [u8],
-)
-    requires { (length path.now ≤ 4096) × (length store.old ≡ 65537) × (393216 ≤ length out.old) }
+) -> Result<(), Failure<'a>>
+    requires { (length store.old ≡ 65537) × (393216 ≤ length out.old) }
 {
-    match verb {
-        Verb::Enter => change(rt, verb, path, word, store, out),
-        Verb::Release => change(rt, verb, path, word, store, out),
-        Verb::Show => look(rt, verb, path, word, store, out),
-        Verb::List => look(rt, verb, path, word, store, out),
-        Verb::Nothing => usage(rt),
+    match request.call {
+        Call::Enter(_) | Call::Release(_) => change(rt, request, store, out),
+        Call::Show(_) | Call::List => look(rt, request, store, out),
+    }
+}
+
+// A path is text in the kit's library.
+fn no_name<'a>() -> Failure<'a> {
+    Failure {
+        what: "FILE",
+        reason: io::Error::new(ErrorKind::InvalidFilename, "the name is not UTF-8"),
     }
 }
 
 // The arrays by their types: a proof then asks their lengths of no list of so many elements.
 fn run_in<R: Files + Print + Eprint>(
     rt: &R,
-    verb: Verb,
     path: &[u8],
-    word: &[u8],
+    call: Call,
     store: &mut [u8; STORE_ROOM],
     out: &mut [u8; OUT_ROOM],
 )
     requires { length path.now ≤ 4096 }
 {
-    run(rt, verb, path, word, store, out);
+    let mut name = [0u8; NAME_ROOM];
+    let n = text::append(&mut name, 0, path);
+    let end = text::append(&mut name, n, b".new");
+    let (Ok(path), Ok(beside)) = (from_utf8(path), from_utf8(&name[..end])) else {
+        failed(rt, no_name());
+        return;
+    };
+    let request = Request { path, beside, call };
+    if let Err(failure) = run(rt, request, store, out) {
+        failed(rt, failure);
+    }
 }
 
 // The third word, or as much of it as there is room for.
@@ -344,35 +271,25 @@ fn last_word(env: &impl Env, buf: &mut [u8]) -> usize
 
 // How many words there are, as far as five.
 fn arg_count(env: &impl Env) -> usize {
-    for i in 0..5 {
-        if let Err(FillError::NotPresent) = env.arg(i, &mut []) {
-            return i;
-        }
-    }
-    5
+    (0..5)
+        .find(|i| matches!(env.arg(*i, &mut []), Err(FillError::NotPresent)))
+        .unwrap_or(5)
 }
 
 fn main(rt: HostRuntime) {
     let mut path = [0u8; PATH_ROOM];
-    let Ok(n) = rt.arg(1, &mut path) else {
-        usage(&rt);
-        return;
-    };
-    let mut first = [0u8; 8];
-    let Ok(f) = rt.arg(2, &mut first) else {
+    let mut verb = [0u8; 8];
+    let (Ok(n), Ok(v)) = (rt.arg(1, &mut path), rt.arg(2, &mut verb)) else {
         usage(&rt);
         return;
     };
     let mut word = [0u8; LINE_ROOM];
     let w = last_word(&rt, &mut word);
+    let Some(call) = call_of(&verb[..v], &word[..w], arg_count(&rt)) else {
+        usage(&rt);
+        return;
+    };
     let mut store = [0u8; STORE_ROOM];
     let mut out = [0u8; OUT_ROOM];
-    run_in(
-        &rt,
-        asked(&first[..f], arg_count(&rt)),
-        &path[..n],
-        &word[..w],
-        &mut store,
-        &mut out,
-    );
+    run_in(&rt, &path[..n], call, &mut store, &mut out);
 }

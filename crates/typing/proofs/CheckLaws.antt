@@ -1,14 +1,13 @@
 -- The validation's answer, by what `hir` says of the sheet. Assumes nothing.
 use mathlib.Core.Path.{◌≡◌, sym, ap, ◌∙◌}
 use mathlib.Core.Bool.{Bool, true, false}
-use Prim.Native.Nat.{◌≤◌, ◌<◌}
-use native.Mathlib.Omega.{arith}
+use Prim.Native.Nat.{ℕ, ◌≤◌, ◌<◌}
 use lib.ListN.{length}
 use borrow.Author.Tests.{lt-ltb, le-ltb}
 use Rattle.semantics.specs.Limits.{sheet_limit, depth_limit}
 use Rattle.semantics.specs.Bytes.{Bytes}
-use Rattle.semantics.specs.Sheet.{sheet}
-use Rattle.hir.specs.Check.{OutlineAs, is_refused, is_laid}
+use Rattle.semantics.specs.Sheet.{refused, sheet}
+use Rattle.hir.specs.Check.{Laid}
 use Rattle.hir.specs.declared.valid.Outline.{Outline}
 use Rattle.typing.specs.Checking.{CheckedAs, checked_by, checked, check_call}
 
@@ -23,12 +22,10 @@ by-sheet : (s : Bytes) → length s ≤ sheet_limit → check_call s ≡ checked
 unfolding chosen check_call
 by-sheet s h = ap (chosen s) (le-ltb sheet_limit (length s) h)
 
-pub accepted : (s : Bytes) (o : Outline) → length s ≤ sheet_limit → OutlineAs depth_limit s o → o.why ≡ 0 → checked_by 0 0 ≡ check_call s
+pub accepted : (s : Bytes) (o : Outline) → length s ≤ sheet_limit → Laid depth_limit s o → checked_by 0 0 ≡ check_call s
 unfolding checked
-accepted s o h (is_refused p _) z = absurd (omega arith)
-accepted s o h (is_laid _ l) z = sym (by-sheet s h ∙ ap checked l.same)
+accepted s o h l = sym (by-sheet s h ∙ ap checked l.same)
 
-pub refused : (s : Bytes) (o : Outline) → length s ≤ sheet_limit → OutlineAs depth_limit s o → (o.why ≡ 0 → ⊥) → checked_by o.why o.line.0 ≡ check_call s
+pub refused-at : (s : Bytes) (c n : ℕ) → length s ≤ sheet_limit → sheet depth_limit s ≡ refused c n → checked_by c n ≡ check_call s
 unfolding checked
-refused s o h (is_refused _ e) z = sym (by-sheet s h ∙ ap checked e)
-refused s o h (is_laid e _) z = absurd (z e)
+refused-at s c n h e = sym (by-sheet s h ∙ ap checked e)

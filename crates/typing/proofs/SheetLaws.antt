@@ -6,18 +6,17 @@ use mathlib.Core.List.{List, ◌∷◌, ◌++◌}
 use mathlib.Core.Option.{Option, none, some}
 use mathlib.Core.Bool.{Bool, true, false}
 use lib.Dec.{eqb, ltb}
-use lib.ListN.{length, take, drop, replicate}
+use lib.ListN.{length, take, drop}
 use lib.Seq.{sets, take-append_seam}
 use borrow.Author.Tests.{eq-eqb, ne_eqb, lt-ltb, le-ltb, ltb-false}
 use Rattle.semantics.specs.Limits.{sheet_limit, depth_limit, work_size}
 use Rattle.semantics.specs.Bytes.{Bytes}
 use Rattle.semantics.specs.Sheet.{Head, Sheet, refused, heads, sheet}
 use Rattle.semantics.specs.Walk.{Top, env_of, walk, results, all_tests, typing}
-use Rattle.semantics.specs.Calls.{first_large, report, Outcome, refusal, accepted, limited, judged, outcome, refused_text, outcome_text, sheet_text, Settled, untouched, cleared, answered, settled, sheet_call}
+use Rattle.semantics.specs.Calls.{first_large, report, Outcome, refusal, accepted, limited, judged, outcome, refused_text, outcome_text, sheet_text, Settled, zeros, written, untouched, cleared, answered, settled, sheet_call}
 use Rattle.semantics.proofs.Causes.{FineSheet, sheet-fine}
-use Rattle.line.specs.declared.line.HirId.{HirId}
 use Rattle.hir.specs.Lines.{Lines, no_line, a_line}
-use Rattle.hir.specs.Check.{Laid, OutlineAs, is_refused, is_laid}
+use Rattle.hir.specs.Check.{Laid}
 use Rattle.hir.specs.declared.valid.Outline.{Outline}
 use Rattle.hir.proofs.BindLaws.{kind-type}
 use Rattle.tops.specs.Tops.{out_tops}
@@ -26,15 +25,14 @@ use Rattle.infer.specs.Steps.{EnvAs}
 use Rattle.infer.specs.Statement.{StatementAt, StatementAsk, MadeAs, Reported}
 use Rattle.infer.specs.declared.step.Env.{Env as Binds}
 use Rattle.infer.specs.declared.walk.Cur.{Cur}
-use Rattle.infer.specs.declared.statement.Report.{Report}
-use Rattle.infer.specs.declared.statement.Report.TheVariants.{Made, TooLarge}
-use Rattle.unifying.specs.declared.Call.{Call}
+use Rattle.infer.specs.declared.walk.TooLarge.{TooLarge}
+use Rattle.std.specs.Prelude.{Result, Ok, Err, is_err}
+use Rattle.semantics.specs.Refusals.{number_of}
+use Rattle.semantics.specs.declared.refusals.Refused.{Refused}
+use Rattle.semantics.specs.declared.refusals.Refusal.TheVariants.{TypeTooLarge, OutputTooShort}
 use Rattle.unifying.specs.Call.{settled_by}
-use Rattle.typing.specs.Typed.{Types}
+use Rattle.typing.specs.Typed.{settled_as, Types}
 use Rattle.unifying.proofs.Delivered.{written_at}
-
-abbrev told : ℕ → ℕ → Call
-told c n = record { number = c; first = n; second = 0 }
 
 -- ## The call by its tests
 
@@ -66,16 +64,15 @@ limited-is (some l) hs = refl
 
 -- ## Lengths
 
-pub call_long : (s work out : Bytes) (r : Call) → sheet_limit < length s → r ≡ told 1 0 → settled_by r.number r.first r.second work out ≡ sheet_call s work out
+pub call_long : (s work out : Bytes) → sheet_limit < length s → settled_by 1 0 0 work out ≡ sheet_call s work out
 unfolding chosen
-call_long s work out r h e =
-    rw e (sym (call-chosen s work out ∙ ap (λ (c : Bool). chosen s work out c (eqb (length work) work_size)) (lt-ltb sheet_limit (length s) h)))
+call_long s work out h =
+    sym (call-chosen s work out ∙ ap (λ (c : Bool). chosen s work out c (eqb (length work) work_size)) (lt-ltb sheet_limit (length s) h))
 
-pub call-sized : (s work out : Bytes) (r : Call) → length s ≤ sheet_limit → (length work ≡ work_size → ⊥) → r ≡ told 2 0
-    → settled_by r.number r.first r.second work out ≡ sheet_call s work out
+pub call-sized : (s work out : Bytes) → length s ≤ sheet_limit → (length work ≡ work_size → ⊥) → settled_by 2 0 0 work out ≡ sheet_call s work out
 unfolding chosen
-call-sized s work out r h n e =
-    rw e (sym (call-chosen s work out ∙ ap₂ (chosen s work out) (le-ltb sheet_limit (length s) h) (ne_eqb (length work) work_size n)))
+call-sized s work out h n =
+    sym (call-chosen s work out ∙ ap₂ (chosen s work out) (le-ltb sheet_limit (length s) h) (ne_eqb (length work) work_size n))
 
 call-outcome : (s work out : Bytes) → length s ≤ sheet_limit → length work ≡ work_size → sheet_call s work out ≡ settled (outcome s) work out
 unfolding chosen
@@ -83,26 +80,11 @@ call-outcome s work out h e = call-chosen s work out ∙ ap₂ (chosen s work ou
 
 -- ## Refusals
 
-types-cleared : (U : Settled) (work out out' : Bytes) (c n : ℕ) → (c ≡ 0 → ⊥) → U ≡ cleared c n work out → Types U work out out' (told c n)
-types-cleared U work out out' c n n0 e =
-    record {
-      number = sym (ap (λ (x : Settled). x.number) e);
-      first = sym (ap (λ (x : Settled). x.first) e);
-      second = sym (ap (λ (x : Settled). x.second) e);
-      cleared = ap (λ (x : Settled). x.work) e;
-      done = λ z. absurd (n0 z);
-      zeroed = λ _. ap (λ (x : Settled). x.out) e;
-    }
-
-pub types-refused : (s work out : Bytes) → (length s ≤ sheet_limit) × (length work ≡ work_size) → (o : Outline) → OutlineAs depth_limit s o → (out' : Bytes) (r : Call)
-    → (o.why ≡ 0 → ⊥) → r ≡ told o.why o.line.0 → Types (sheet_call s work out) work out out' r
+pub types-refused : (s work out : Bytes) → (length s ≤ sheet_limit) × (length work ≡ work_size) → (out' : Bytes) (r : Refused) → sheet depth_limit s ≡ refused (number_of r.why) r.place
+    → Types (sheet_call s work out) work out out' (Err r)
 unfolding outcome judged settled
-types-refused s work out ask o outlined out' r h e =
-    rw e (types-cleared (sheet_call s work out) work out out' o.why o.line.0 h (call-outcome s work out ask.0 ask.1 ∙ go outlined))
-  where
-    go : OutlineAs depth_limit s o → settled (outcome s) work out ≡ cleared o.why o.line.0 work out
-    go (is_refused _ e) = ap (λ (x : Sheet). settled (judged x) work out) e
-    go (is_laid e _) = absurd (h e)
+types-refused s work out ask out' r e =
+    sym (call-outcome s work out ask.0 ask.1 ∙ ap (λ (x : Sheet). settled (judged x) work out) e)
 
 -- ## An accepted sheet
 
@@ -155,21 +137,12 @@ module _ (s : Bytes) (o : Outline) (l : Laid depth_limit s o) where
       (ap first_large x.1 ∙ ap (λ (k : ℕ). first_large (all_tests (walk (env_of the_heads) k l.rest))) n)
       (x.0 ∙ ap (λ (k : ℕ). out_tops (env_of the_heads) k l.rest) n)
 
-accepted-laid : (s : Bytes) (o : Outline) → OutlineAs depth_limit s o → o.why ≡ 0 → Laid depth_limit s o
-accepted-laid s o (is_refused p _) z = absurd (omega arith)
-accepted-laid s o (is_laid _ l) z = l
+pub statement-ask : (s work : Bytes) → (length s ≤ sheet_limit) × (length work ≡ work_size) → (o : Outline) → Laid depth_limit s o → StatementAsk depth_limit s (binds_of o) (cur_of o) work
+statement-ask s work ask o l =
+    record { at = at-clauses s o l ask.0; env = env_of (the_heads s o l); bound = env-as s o l; room = omega (arith, ask.1) }
 
-pub statement-ask : (s work : Bytes) → (length s ≤ sheet_limit) × (length work ≡ work_size) → (o : Outline) → OutlineAs depth_limit s o → o.why ≡ 0
-    → (b : Binds) → b ≡ binds_of o → StatementAsk depth_limit s b (cur_of o) work
-statement-ask s work ask o outlined z b e =
-    let l = accepted-laid s o outlined z in
-    rw e (record { at = at-clauses s o l ask.0; env = env_of (the_heads s o l); bound = env-as s o l; room = omega (arith, ask.1) })
-
-module _ (s work out : Bytes) (ask : (length s ≤ sheet_limit) × (length work ≡ work_size)) (o : Outline) (outlined : OutlineAs depth_limit s o) (zero : o.why ≡ 0)
-    (b : Binds) (built : b ≡ binds_of o) (work' out' : Bytes) (m : Report) (p : Reported depth_limit s b (cur_of o) work work' out out' m) where
-  laid : Laid depth_limit s o
-  laid = accepted-laid s o outlined zero
-
+module _ (s work out : Bytes) (ask : (length s ≤ sheet_limit) × (length work ≡ work_size)) (o : Outline) (laid : Laid depth_limit s o)
+    (work' out' : Bytes) (m : Result ℕ TooLarge) (p : Reported depth_limit s (binds_of o) (cur_of o) work work' out out' m) where
   test : Option ℕ
   test = the-test s o laid
 
@@ -178,18 +151,17 @@ module _ (s work out : Bytes) (ask : (length s ≤ sheet_limit) × (length work 
 
   made_as : MadeAs test tops out out' m
   unfolding test tops the-test the-tops at-clauses
-  made_as = p.made (at-clauses s o laid ask.0) (env_of (the_heads s o laid)) (subst (λ (x : Binds). EnvAs s x (env_of (the_heads s o laid))) (sym built) (env-as s o laid))
+  made_as = p.made (at-clauses s o laid ask.0) (env_of (the_heads s o laid)) (env-as s o laid)
 
   by-test : sheet_call s work out ≡ settled (by-clauses test tops) work out
   unfolding test tops
   by-test = call-outcome s work out ask.0 ask.1 ∙ ap (λ (x : Outcome). settled x work out) (outcome-is s o laid)
 
-  pub types-large : (l : HirId) (r : Call) → m ≡ TooLarge l → r ≡ told 6 l.0 → Types (sheet_call s work out) work out out' r
+  pub types-large : (l : TooLarge) → m ≡ Err l → Types (sheet_call s work out) work out out' (Err (record { why = TypeTooLarge; place = l.0.0 }))
   unfolding by-clauses settled
-  types-large l r em e =
-      rw e (types-cleared (sheet_call s work out) work out out' 6 l.0 (λ z. omega arith) (by-test ∙ go test (subst (MadeAs test tops out out') em made_as)))
+  types-large l em = sym (by-test ∙ go test (subst (MadeAs test tops out out') em made_as))
     where
-      go : (t : Option ℕ) → MadeAs t tops out out' (TooLarge l) → settled (by-clauses t tops) work out ≡ cleared 6 l.0 work out
+      go : (t : Option ℕ) → MadeAs t tops out out' (Err l) → settled (by-clauses t tops) work out ≡ cleared 6 l.0.0 work out
       go none x = absurd x
       go (some k) x = ap (λ (j : ℕ). cleared 6 j work out) (sym x)
 
@@ -199,11 +171,11 @@ module _ (s work out : Bytes) (ask : (length s ≤ sheet_limit) × (length work 
     pub output : out' ≡ sets out 0 (report tops)
     pub call : sheet_call s work out ≡ roomed (report tops) work out (ltb (length out) (length (report tops)))
 
-  reports : (n : ℕ) → m ≡ Made n → Reports n
+  reports : (n : ℕ) → m ≡ Ok n → Reports n
   unfolding by-clauses
   reports n em = go test refl (subst (MadeAs test tops out out') em made_as)
     where
-      go : (t : Option ℕ) → test ≡ t → MadeAs t tops out out' (Made n) → Reports n
+      go : (t : Option ℕ) → test ≡ t → MadeAs t tops out out' (Ok n) → Reports n
       go none et x =
           record {
             long = x.0;
@@ -212,67 +184,32 @@ module _ (s work out : Bytes) (ask : (length s ≤ sheet_limit) × (length work 
           }
       go (some k) et x = absurd x
 
-  pub types-short : (n : ℕ) (r : Call) → m ≡ Made n → length out' < n → r ≡ told 7 0 → Types (sheet_call s work out) work out out' r
+  pub types-short : (n : ℕ) → m ≡ Ok n → length out' < n → Types (sheet_call s work out) work out out' (Err (record { why = OutputTooShort; place = 0 }))
   unfolding roomed
-  types-short n r em h e =
+  types-short n em h =
       let b = report tops in
       let w = reports n em in
       let g : length out < length b = omega (arith, w.long, p.as_long) in
-      rw e (types-cleared (sheet_call s work out) work out out' 7 0 (λ z. omega arith) (w.call ∙ ap (roomed b work out) (lt-ltb (length out) (length b) g)))
+      sym (w.call ∙ ap (roomed b work out) (lt-ltb (length out) (length b) g))
 
-  pub types-made : (n : ℕ) → m ≡ Made n → n ≤ length out' → Types (sheet_call s work out) work out out' (told 0 n)
+  pub types-made : (n : ℕ) → m ≡ Ok n → n ≤ length out' → Types (sheet_call s work out) work out out' (Ok n)
   unfolding roomed
   types-made n em h =
       let b = report tops in
       let w = reports n em in
       let g : length b ≤ length out = omega (arith, w.long, p.as_long) in
       let e : sheet_call s work out ≡ answered b work out = w.call ∙ ap (roomed b work out) (le-ltb (length out) (length b) g) in
-      record {
-        number = sym (ap (λ (x : Settled). x.number) e);
-        first = w.long ∙ sym (ap (λ (x : Settled). x.first) e);
-        second = sym (ap (λ (x : Settled). x.second) e);
-        cleared = ap (λ (x : Settled). x.work) e;
-        done = λ _. w.output ∙ written_at out b g ∙ sym (ap (λ (x : Settled). x.out) e);
-        zeroed = λ n0. absurd (n0 refl);
-      }
+      made-by n out' w.long (w.output ∙ written_at out b g) (sym e)
+    where
+      made-by : (k : ℕ) (o : Bytes) → k ≡ length (report tops) → o ≡ written (report tops) out → answered (report tops) work out ≡ sheet_call s work out → settled_as (Ok k) (zeros work) o ≡ sheet_call s work out
+      made-by k o l f x = rw (l, f) x
 
 -- ## The whole call
 
-module _ (U : Settled) (work out out₁ work' : Bytes) (r : Call) (p : Types U work out out₁ r) (long : length work' ≡ length work) where
-  whole-call : (out' : Bytes) → out' ≡ U.out → settled_by r.number r.first r.second (replicate (length work') 0) out' ≡ U
-  whole-call out' e =
-      let w : replicate (length work') 0 ≡ U.work = ap (λ (j : ℕ). replicate j 0) long ∙ sym p.cleared in
-      rw (p.number, p.first, p.second, w, e)
-
-  pub call-done : r.number ≡ 0 → (w : Bytes) → w ≡ replicate (length work') 0 → settled_by r.number r.first r.second w out₁ ≡ U
-  call-done n w e = rw e (whole-call out₁ (p.done n))
-
-  pub call-zeroed : (r.number ≡ 0 → ⊥) → length out₁ ≡ length out → (w o : Bytes) → w ≡ replicate (length work') 0 → o ≡ replicate (length out₁) 0
-      → settled_by r.number r.first r.second w o ≡ U
-  call-zeroed n0 lo w o e eo = rw e (whole-call o (eo ∙ ap (λ (j : ℕ). replicate j 0) lo ∙ sym (p.zeroed n0)))
-
--- the second number is never used
-second-zero : (s work out : Bytes) → (sheet_call s work out).second ≡ 0
-unfolding chosen settled roomed
-second-zero s work out = ap (λ (x : Settled). x.second) (call-chosen s work out) ∙ by_lengths (ltb sheet_limit (length s)) (eqb (length work) work_size)
-  where
-    by-room : (b : Bytes) (c : Bool) → (roomed b work out c).second ≡ 0
-    by-room b true = refl
-    by-room b false = refl
-
-    by-outcome : (x : Outcome) → (settled x work out).second ≡ 0
-    by-outcome (refusal c n) = refl
-    by-outcome (accepted ts) = by-room (report ts) (ltb (length out) (length (report ts)))
-
-    by_lengths : (c d : Bool) → (chosen s work out c d).second ≡ 0
-    by_lengths true d = refl
-    by_lengths false true = by-outcome (outcome s)
-    by_lengths false false = refl
-
-pub told-first : (s work out work' out' : Bytes) (n first second : ℕ) → settled_by n first second work' out' ≡ sheet_call s work out → settled_by n first 0 work' out' ≡ sheet_call s work out
-told-first s work out work' out' n first second e =
-    let z : second ≡ 0 = ap (λ (x : Settled). x.second) e ∙ second-zero s work out in
-    rw (← z) e
+pub call-settled : (U : Settled) (work out out₁ : Bytes) (r : Result ℕ Refused) → Types U work out out₁ r → (w o : Bytes) → w ≡ zeros work → (is_err r ≡ true → o ≡ zeros out) → (is_err r ≡ false → o ≡ out₁)
+    → settled_as r w o ≡ U
+call-settled U work out out₁ (Ok n) p w o e f g = rw (e, g refl) p
+call-settled U work out out₁ (Err r) p w o e f g = rw (e, f refl) p
 
 -- ## For callers
 

@@ -1,156 +1,103 @@
--- The arm of two types: what the run makes of it, which types have it, and the room that they have. Assumes nothing.
-use mathlib.Core.Path.{◌≡◌, refl, sym, ◌∙◌}
+-- The arm of two types: what the run makes of it, and which types have it. Assumes nothing.
+use mathlib.Core.Path.{◌≡◌, refl, sym, subst}
+use Prim.Native.Nat.{ℕ}
 use mathlib.Core.List.{List, [], ◌∷◌}
 use mathlib.Core.Option.{Option, none}
-use mathlib.Core.Bool.{Bool, true, false, cond, false≢true, ◌||◌}
-use Prim.Native.Nat.{ℕ, suc, ◌+◌, ◌*◌, ◌-◌, ◌/◌, ◌≤◌}
-use native.Mathlib.Omega.{arith}
-use lib.Dec.{eqb}
+use mathlib.Core.Bool.{Bool, true, false, ◌||◌}
 use Rattle.semantics.specs.Bytes.{Bytes}
-use Rattle.semantics.specs.Ty.{t_any, t_null, t_num, t_unknown, Ty, base, t_list, t_map, t_node, t_relationship, t_union, matches, equal, nesting, is_union}
-use Rattle.semantics.specs.Unify.{Meeting, meeting}
+use Rattle.semantics.specs.Ty.{t_any, t_null, t_num, t_unknown, Ty, base, t_list, t_map, t_node, t_relationship, t_union, Tys, Fields, ∅ᶠ, members, matches, equal, is_union}
+use Rattle.semantics.specs.Unify.{Meeting}
 use Rattle.semantics.proofs.Meetings.{Met, two_numbers, two_lists, two_maps, two_nodes, two_relationships, two_unions, union_left, union_right, no_rule, met}
-use Rattle.unify_run.specs.Run.{Run, done, mismatch, large, nullable, run_nodes, run_pair, run_arms}
-use Rattle.unify_run.proofs.Size.{nests}
-use Rattle.unify.specs.Codes.{lists_arm, nodes_arm}
-use Rattle.unify.specs.Work.{slots}
-use Rattle.unify.specs.Arms.{pair_arm, arm_of, has_parts}
+use Rattle.semantics.proofs.Regular.{regular-sound}
+use Rattle.unify_run.specs.Run.{Run, done, mismatch, checked, on_done, kept, nullable, run_maps, run_members, run_nodes, run_pair, run_arms}
+use Rattle.unify_run.proofs.Theorem.{verdict-arms}
+use Rattle.unify.specs.Work.{Operand, judged}
+use Rattle.unify.specs.Arms.{pair_arm, arm_of}
+use Rattle.unify.specs.declared.Span.{Span}
+use Rattle.unify.specs.declared.arms.Arm.{Arm}
+use Rattle.unify.specs.declared.arms.Arm.TheVariants.{Left, Right, AnyUnknown, NullLeft, NullRight, Numbers, Lists, Maps, Nodes, Relationships, Unions, UnionLeft, UnionRight, Apart}
 
--- ## What the run makes of an arm
+-- ## What two types are that meet an arm, and what the run makes of them
 
-unfoldable pub labels_of : Ty → Option (List Bytes)
-labels_of (base b) = none
-labels_of (t_list t) = none
-labels_of (t_map fs) = none
-labels_of (t_node ls) = ls
-labels_of (t_relationship m) = none
-labels_of (t_union ts) = none
-
--- an arm that has no parts
-unfoldable pub flat_run : ℕ → Ty → Ty → Run
-flat_run n a b =
-    cond (eqb n 0) (done a)
-    (cond (eqb n 1) (done b)
-    (cond (eqb n 2) (done (base t_unknown))
-    (cond (eqb n 3) (nullable b)
-    (cond (eqb n 4) (nullable a)
-    (cond (eqb n 5) (done (base t_num))
-    (cond (eqb n 8) (run_nodes (labels_of a) (labels_of b)) (cond (eqb n 9) (done (t_relationship none)) (mismatch a b))))))))
-
-record Flat (a b : Ty) (n : ℕ) (r : Run) : Type 0 where
-  is : has_parts n ≡ false → r ≡ flat_run n a b
-
-flat_step : {a b : Ty} (c : Bool) {n m : ℕ} {r q : Run} → Flat a b n r → Flat a b m q → Flat a b (elim c [ true ↦ n | false ↦ m ]) (elim c [ true ↦ r | false ↦ q ])
-flat_step true p q = p
-flat_step false p q = q
-
-flat-pair : (rec : Ty → Ty → Run) {a b : Ty} {m : Meeting} → Met a b m → Flat a b (pair_arm m) (run_pair rec m)
-unfolding run_pair flat_run pair_arm has_parts labels_of
-flat-pair rec (two_numbers b c x y) = record { is = λ h. refl }
-flat-pair rec (two_lists t u) = record { is = λ h. absurd (false≢true (sym h)) }
-flat-pair rec (two_maps fs gs) = record { is = λ h. absurd (false≢true (sym h)) }
-flat-pair rec (two_nodes ls ks) = record { is = λ h. refl }
-flat-pair rec (two_relationships m n) = record { is = λ h. refl }
-flat-pair rec (two_unions ts us) = record { is = λ h. absurd (false≢true (sym h)) }
-flat-pair rec (union_left ts u x) = record { is = λ h. absurd (false≢true (sym h)) }
-flat-pair rec (union_right t us x) = record { is = λ h. absurd (false≢true (sym h)) }
-flat-pair rec (no_rule a b e) = record { is = λ h. refl }
-
-flats : (rec : Ty → Ty → Run) (a b : Ty) → Flat a b (arm_of a b) (run_arms rec a b)
-unfolding run_arms arm_of flat_run
-flats rec a b =
-    flat_step (matches a (t_any ∷ [])) (record { is = λ h. refl })
-    (flat_step (matches b (t_any ∷ [])) (record { is = λ h. refl })
-    (flat_step (matches a (t_unknown ∷ []) || matches b (t_unknown ∷ [])) (record { is = λ h. refl })
-    (flat_step (equal a b) (record { is = λ h. refl })
-    (flat_step (matches a (t_null ∷ [])) (record { is = λ h. refl }) (flat_step (matches b (t_null ∷ [])) (record { is = λ h. refl }) (flat-pair rec (met a b)))))))
-
-pub flat-arms : (rec : Ty → Ty → Run) (a b : Ty) → has_parts (arm_of a b) ≡ false → run_arms rec a b ≡ flat_run (arm_of a b) a b
-flat-arms rec a b = (flats rec a b).is
-
--- from 5 on the two types are a pair
-record FromFive (o n : ℕ) (z r : Run) : Type 0 where
-  is : 5 ≤ n → (r ≡ z) × (n ≡ o)
-
-five-step : {o : ℕ} {z : Run} (c : Bool) {n m : ℕ} {r q : Run} → FromFive o n z r → FromFive o m z q → FromFive o (elim c [ true ↦ n | false ↦ m ]) z (elim c [ true ↦ r | false ↦ q ])
-five-step true p q = p
-five-step false p q = q
-
-low : {o : ℕ} {z : Run} {n : ℕ} {r : Run} → n ≤ 4 → FromFive o n z r
-low l = record { is = λ h. absurd (omega arith) }
-
-from-five : (rec : Ty → Ty → Run) (a b : Ty) → FromFive (pair_arm (meeting a b)) (arm_of a b) (run_pair rec (meeting a b)) (run_arms rec a b)
-unfolding run_arms arm_of
-from-five rec a b =
-    five-step (matches a (t_any ∷ [])) (low (omega arith))
-    (five-step (matches b (t_any ∷ [])) (low (omega arith))
-    (five-step (matches a (t_unknown ∷ []) || matches b (t_unknown ∷ [])) (low (omega arith))
-    (five-step (equal a b) (low (omega arith))
-    (five-step (matches a (t_null ∷ [])) (low (omega arith)) (five-step (matches b (t_null ∷ [])) (low (omega arith)) (record { is = λ h. (refl, refl) }))))))
-
-pub pair-arms : (rec : Ty → Ty → Run) (a b : Ty) → 5 ≤ arm_of a b → (run_arms rec a b ≡ run_pair rec (meeting a b)) × (arm_of a b ≡ pair_arm (meeting a b))
-pair-arms rec a b = (from-five rec a b).is
-
--- ## The types of an arm
-
-pub record Lists (a b : Ty) : Type 0 where
+pub record TwoLists (a b : Ty) (R : Run) : Type 0 where
   pub first : Ty
   pub second : Ty
   pub first_is : a ≡ t_list first
   pub second_is : b ≡ t_list second
+  pub runs : R ≡ on_done (judged first second) (λ v. checked (t_list v))
 
-pub record Nodes (a b : Ty) : Type 0 where
+pub record TwoMaps (a b : Ty) (R : Run) : Type 0 where
+  pub first : Fields
+  pub second : Fields
+  pub first_is : a ≡ t_map first
+  pub second_is : b ≡ t_map second
+  pub runs : R ≡ run_maps judged first second (kept ∅ᶠ)
+
+pub record TwoNodes (a b : Ty) (R : Run) : Type 0 where
   pub first : Option (List Bytes)
   pub second : Option (List Bytes)
   pub first_is : a ≡ t_node first
   pub second_is : b ≡ t_node second
+  pub runs : R ≡ run_nodes first second
 
-pair-lists : {a b : Ty} {m : Meeting} → Met a b m → pair_arm m ≡ lists_arm → Lists a b
-unfolding pair_arm
-pair-lists (two_numbers b c x y) e = absurd (omega arith)
-pair-lists (two_lists t u) e = record { first = t; second = u; first_is = refl; second_is = refl }
-pair-lists (two_maps fs gs) e = absurd (omega arith)
-pair-lists (two_nodes ls ks) e = absurd (omega arith)
-pair-lists (two_relationships m n) e = absurd (omega arith)
-pair-lists (two_unions ts us) e = absurd (omega arith)
-pair-lists (union_left ts u x) e = absurd (omega arith)
-pair-lists (union_right t us x) e = absurd (omega arith)
-pair-lists (no_rule a b x) e = absurd (omega arith)
+pub record TwoUnions (a b : Ty) (R : Run) : Type 0 where
+  pub first : Tys
+  pub second : Tys
+  pub first_is : a ≡ t_union first
+  pub second_is : b ≡ t_union second
+  pub runs : R ≡ run_members judged (members second) (members first) []
 
-pair-nodes : {a b : Ty} {m : Meeting} → Met a b m → pair_arm m ≡ nodes_arm → Nodes a b
-unfolding pair_arm
-pair-nodes (two_numbers b c x y) e = absurd (omega arith)
-pair-nodes (two_lists t u) e = absurd (omega arith)
-pair-nodes (two_maps fs gs) e = absurd (omega arith)
-pair-nodes (two_nodes ls ks) e = record { first = ls; second = ks; first_is = refl; second_is = refl }
-pair-nodes (two_relationships m n) e = absurd (omega arith)
-pair-nodes (two_unions ts us) e = absurd (omega arith)
-pair-nodes (union_left ts u x) e = absurd (omega arith)
-pair-nodes (union_right t us x) e = absurd (omega arith)
-pair-nodes (no_rule a b x) e = absurd (omega arith)
+-- a union and another type, which is the outer one
+pub record OneUnion (union other : Ty) (R : Run) : Type 0 where
+  pub types : Tys
+  pub is : union ≡ t_union types
+  pub single : is_union other ≡ false
+  pub runs : R ≡ run_members judged (members types) (other ∷ []) []
 
-pub arm-lists : (a b : Ty) → arm_of a b ≡ lists_arm → Lists a b
-arm-lists a b e = pair-lists (met a b) (sym (pair-arms (λ t u. large) a b (omega arith)).1 ∙ e)
+abbrev pub Meets : Ty → Ty → Run → Arm → Type 0
+Meets a b R Left = R ≡ done a
+Meets a b R Right = R ≡ done b
+Meets a b R AnyUnknown = R ≡ done (base t_unknown)
+Meets a b R NullLeft = R ≡ nullable b
+Meets a b R NullRight = R ≡ nullable a
+Meets a b R Numbers = R ≡ done (base t_num)
+Meets a b R Lists = TwoLists a b R
+Meets a b R Maps = TwoMaps a b R
+Meets a b R Nodes = TwoNodes a b R
+Meets a b R Relationships = R ≡ done (t_relationship none)
+Meets a b R Unions = TwoUnions a b R
+Meets a b R UnionLeft = OneUnion a b R
+Meets a b R UnionRight = OneUnion b a R
+Meets a b R Apart = R ≡ mismatch a b
 
-pub arm-nodes : (a b : Ty) → arm_of a b ≡ nodes_arm → Nodes a b
-arm-nodes a b e = pair-nodes (met a b) (sym (pair-arms (λ t u. large) a b (omega arith)).1 ∙ e)
+pair-meets : {a b : Ty} {m : Meeting} → Met a b m → Meets a b (run_pair judged m) (pair_arm m)
+unfolding run_pair pair_arm
+pair-meets (two_numbers b c x y) = refl
+pair-meets (two_lists t u) = record { first = t; second = u; first_is = refl; second_is = refl; runs = refl }
+pair-meets (two_maps fs gs) = record { first = fs; second = gs; first_is = refl; second_is = refl; runs = refl }
+pair-meets (two_nodes ls ks) = record { first = ls; second = ks; first_is = refl; second_is = refl; runs = refl }
+pair-meets (two_relationships m n) = refl
+pair-meets (two_unions ts us) = record { first = ts; second = us; first_is = refl; second_is = refl; runs = refl }
+pair-meets (union_left ts u x) = record { types = ts; is = refl; single = x; runs = refl }
+pair-meets (union_right t us x) = record { types = us; is = refl; single = x; runs = refl }
+pair-meets (no_rule a b e) = refl
 
--- ## Room
+module _ (a b : Ty) where
+  either : (c : Bool) (n m : Arm) (R Q : Run) → Meets a b R n → Meets a b Q m → Meets a b (elim c [ true ↦ R | false ↦ Q ]) (elim c [ true ↦ n | false ↦ m ])
+  either true n m R Q p q = p
+  either false n m R Q p q = q
 
-pub slots-one : (t u : Ty) → 1 ≤ slots t u
-unfolding slots
-slots-one t u =
-    let p = nests t in
-    let q = nests u in
-    go (nesting t) (nesting u) p q (cond (is_union t || is_union u) 1 0)
-  where
-    go : (x y : ℕ) → 1 ≤ x → 1 ≤ y → (z : ℕ) → 1 ≤ (2 * (x + y) + z - 1) / 3
-    go x y p q z = omega arith
+  meets : Meets a b (run_arms judged a b) (arm_of a b)
+  unfolding run_arms arm_of
+  meets =
+      either (matches a (t_any ∷ [])) Right _ (done b) _ refl
+      (either (matches b (t_any ∷ [])) Left _ (done a) _ refl
+      (either (matches a (t_unknown ∷ []) || matches b (t_unknown ∷ [])) AnyUnknown _ (done (base t_unknown)) _ refl
+      (either (equal a b) Left _ (done a) _ refl
+      (either (matches a (t_null ∷ [])) NullLeft _ (nullable b) _ refl (either (matches b (t_null ∷ [])) NullRight _ (nullable a) _ refl (pair-meets (met a b)))))))
 
-pub slots-lists : (t u : Ty) → 1 + slots t u ≤ slots (t_list t) (t_list u)
-unfolding slots nesting is_union
-slots-lists t u = go (nesting t) (nesting u) (is_union t || is_union u)
-  where
-    go : (x y : ℕ) (z : Bool) → 1 + (2 * (x + y) + cond z 1 0 - 1) / 3 ≤ (2 * (suc x + suc y) + 0 - 1) / 3
-    go x y true = omega arith
-    go x y false = omega arith
+-- two operands whose arm is known
+pub operands-meet : {s : Bytes} {a b : Span} {mark : ℕ} {t u : Ty} {n : Arm} → Operand s a mark t → Operand s b mark u → arm_of t u ≡ n → Meets t u (judged t u) n
+operands-meet {t = t} {u = u} {n = n} o q e =
+    subst (Meets t u (judged t u)) e
+    (subst (λ (R : Run). Meets t u R (arm_of t u)) (sym (verdict-arms t u (regular-sound t o.regular) (regular-sound u q.regular) o.small q.small)) (meets t u))

@@ -2,10 +2,10 @@
 use mathlib.Core.Path.{◌≡◌, refl, sym, ◌∙◌, ap, ap₂}
 use mathlib.Core.List.{[], ◌∷◌}
 use mathlib.Core.Bool.{Bool, true, false, cond, ◌&&◌, false≢true, ◌||◌}
-use Prim.Native.Nat.{ℕ, ◌≤◌, ◌<◌}
+use Prim.Native.Nat.{ℕ, ◌<◌}
 use native.Mathlib.Omega.{arith}
-use borrow.Author.Tests.{eq-eqb, ne_eqb, le-leb, lt-leb}
-use lib.Dec.{eqb, leb}
+use borrow.Author.Tests.{ne_eqb}
+use lib.Dec.{eqb}
 use lib.ListN.{length, get_or}
 use lib.Seq.{slice}
 use Rattle.semantics.specs.Codes.{any_letter, unknown_letter}
@@ -18,7 +18,9 @@ use Rattle.unify.specs.Predicates.{numeric}
 use Rattle.ty.specs.Read.{kind_of}
 use Rattle.ty.proofs.Lines.{special, letter-away}
 use Rattle.ty.proofs.KindLaws.{kind_at, two_at}
-use Rattle.unify.specs.Arms.{pair_arm, arm_of, has_parts}
+use Rattle.unify.specs.Arms.{pair_arm, arm_of}
+use Rattle.unify.specs.declared.arms.Arm.{Arm}
+use Rattle.unify.specs.declared.arms.Arm.TheVariants.{Left, Right, AnyUnknown, NullLeft, NullRight, Numbers, UnionLeft, UnionRight, Apart}
 use Rattle.unify.specs.Letters.{arm_of_kind, arm_of_kinds, arm_of_unequal}
 
 -- ## By letters
@@ -52,11 +54,11 @@ numeric-last true = refl
 numeric-last false = refl
 
 module _ (b : Base) (k : ℕ) (h : special k ≡ true) (n : numeric k ≡ false) where
-  first-base : cond (eqb (letter b) k) (arm_of_kind k) (arm_of_kinds (letter b) k) ≡ cond (eqb k 79) 12 13
+  first-base : cond (eqb (letter b) k) (arm_of_kind k) (arm_of_kinds (letter b) k) ≡ cond (eqb k 79) UnionRight Apart
   unfolding arm_of_kinds special
   first-base = rw (not-letter k b h, n, numeric-last (numeric (letter b)), not-letter 79 b refl)
 
-  second-base : cond (eqb k (letter b)) (arm_of_kind (letter b)) (arm_of_kinds k (letter b)) ≡ cond (eqb k 79) 11 13
+  second-base : cond (eqb k (letter b)) (arm_of_kind (letter b)) (arm_of_kinds k (letter b)) ≡ cond (eqb k 79) UnionLeft Apart
   unfolding arm_of_kinds special
   second-base = rw (letter-not k b h, n, not-letter 79 b refl)
 
@@ -70,7 +72,7 @@ two-bases b c e =
     unlike : b ≡ c → ⊥
     unlike q = false≢true (sym e ∙ ap (λ (x : Base). equal (base b) (base x)) (sym q) ∙ equal-refl (base b))
 
-    go : (x : Bool) → pair_arm (elim x [ true ↦ widening | false ↦ apart (base b) (base c) ]) ≡ cond x 5 13
+    go : (x : Bool) → pair_arm (elim x [ true ↦ widening | false ↦ apart (base b) (base c) ]) ≡ cond x Numbers Apart
     go true = refl
     go false = refl
 
@@ -115,11 +117,11 @@ pair-letters (t_union ts) (t_relationship n) e = refl
 pair-letters (t_union ts) (t_union us) e = refl
 
 unequal-letters : (t u : Ty) → equal t u ≡ false
-    → elim (matches t (t_null ∷ [])) [ true ↦ 3 | false ↦ elim (matches u (t_null ∷ [])) [ true ↦ 4 | false ↦ pair_arm (meeting t u) ] ] ≡ arm_of_unequal (kind_of t) (kind_of u)
+    → elim (matches t (t_null ∷ [])) [ true ↦ NullLeft | false ↦ elim (matches u (t_null ∷ [])) [ true ↦ NullRight | false ↦ pair_arm (meeting t u) ] ] ≡ arm_of_unequal (kind_of t) (kind_of u)
 unfolding arm_of_unequal letter
 unequal-letters t u e = go (matches t (t_null ∷ [])) (matches u (t_null ∷ [])) (sym (matches-letter t t_null)) (sym (matches-letter u t_null))
   where
-    go : (x y : Bool) → eqb (kind_of t) 66 ≡ x → eqb (kind_of u) 66 ≡ y → elim x [ true ↦ 3 | false ↦ elim y [ true ↦ 4 | false ↦ pair_arm (meeting t u) ] ] ≡ arm_of_unequal (kind_of t) (kind_of u)
+    go : (x y : Bool) → eqb (kind_of t) 66 ≡ x → eqb (kind_of u) 66 ≡ y → elim x [ true ↦ NullLeft | false ↦ elim y [ true ↦ NullRight | false ↦ pair_arm (meeting t u) ] ] ≡ arm_of_unequal (kind_of t) (kind_of u)
     go true y p q = rw (p, arm_of_unequal)
     go false true p q = rw (p, q, arm_of_unequal)
     go false false p q = rw (p, q, arm_of_unequal) (pair-letters t u e)
@@ -132,19 +134,19 @@ pub type-begins : {s : Bytes} {a e : ℕ} {t : Ty} → TypeAt s a e t → a < le
 type-begins {s} {a} {e} {t} f = omega (arith, two_at s a e t f, f.inside)
 
 module _ {s : Bytes} {a ae b be : ℕ} {t u : Ty} (f : TypeAt s a ae t) (g : TypeAt s b be u) where
-  pub arm-any-first : eqb (get_or s a 0) any_letter ≡ true → 1 ≡ arm_of t u
+  pub arm-any-first : eqb (get_or s a 0) any_letter ≡ true → Right ≡ arm_of t u
   unfolding arm_of letter
   arm-any-first p = rw (reads f t_any p, arm_of)
 
-  pub arm-any-second : eqb (get_or s a 0) any_letter ≡ false → eqb (get_or s b 0) any_letter ≡ true → 0 ≡ arm_of t u
+  pub arm-any-second : eqb (get_or s a 0) any_letter ≡ false → eqb (get_or s b 0) any_letter ≡ true → Left ≡ arm_of t u
   unfolding arm_of letter
   arm-any-second p q = rw (reads f t_any p, reads g t_any q, arm_of)
 
-  pub arm-unknown-first : eqb (get_or s a 0) any_letter ≡ false → eqb (get_or s b 0) any_letter ≡ false → eqb (get_or s a 0) unknown_letter ≡ true → 2 ≡ arm_of t u
+  pub arm-unknown-first : eqb (get_or s a 0) any_letter ≡ false → eqb (get_or s b 0) any_letter ≡ false → eqb (get_or s a 0) unknown_letter ≡ true → AnyUnknown ≡ arm_of t u
   unfolding arm_of letter
   arm-unknown-first p q v = rw (reads f t_any p, reads g t_any q, reads f t_unknown v, arm_of)
 
-  pub arm-unknown-second : eqb (get_or s a 0) any_letter ≡ false → eqb (get_or s b 0) any_letter ≡ false → eqb (get_or s a 0) unknown_letter ≡ false → eqb (get_or s b 0) unknown_letter ≡ true → 2 ≡ arm_of t u
+  pub arm-unknown-second : eqb (get_or s a 0) any_letter ≡ false → eqb (get_or s b 0) any_letter ≡ false → eqb (get_or s a 0) unknown_letter ≡ false → eqb (get_or s b 0) unknown_letter ≡ true → AnyUnknown ≡ arm_of t u
   unfolding arm_of letter
   arm-unknown-second p q v w = rw (reads f t_any p, reads g t_any q, reads f t_unknown v, reads g t_unknown w, arm_of)
 
@@ -153,72 +155,13 @@ module _ {s : Bytes} {a ae b be : ℕ} {t u : Ty} (f : TypeAt s a ae t) (g : Typ
   same_lines = ap₂ same f.is g.is
 
   module _ (p : eqb (get_or s a 0) any_letter ≡ false) (q : eqb (get_or s b 0) any_letter ≡ false) (v : eqb (get_or s a 0) unknown_letter ≡ false) (w : eqb (get_or s b 0) unknown_letter ≡ false) (r : Bool) (x : r ≡ same (slice a ae s) (slice b be s)) where
-    pub arm-equal : r ≡ true → 0 ≡ arm_of t u
+    pub arm-equal : r ≡ true → Left ≡ arm_of t u
     unfolding arm_of letter
     arm-equal e = let z : equal t u ≡ true = sym same_lines ∙ sym x ∙ e in rw (reads f t_any p, reads g t_any q, reads f t_unknown v, reads g t_unknown w, z, arm_of)
 
-    pub arm-unequal : r ≡ false → (n : ℕ) → n ≡ arm_of_unequal (get_or s a 0) (get_or s b 0) → n ≡ arm_of t u
+    pub arm-unequal : r ≡ false → (n : Arm) → n ≡ arm_of_unequal (get_or s a 0) (get_or s b 0) → n ≡ arm_of t u
     unfolding arm_of letter
     arm-unequal e n h =
         let z : equal t u ≡ false = sym same_lines ∙ sym x ∙ e in
         let k : n ≡ arm_of_unequal (kind_of t) (kind_of u) = h ∙ ap₂ arm_of_unequal (kind_at s a ae t f) (kind_at s b be u g) in
         rw (reads f t_any p, reads g t_any q, reads f t_unknown v, reads g t_unknown w, z, arm_of) (k ∙ sym (unequal-letters t u z))
-
--- the tests
-pub kind-other : (k : ℕ) → (k ≡ 74 → ⊥) → (k ≡ 75 → ⊥) → (k ≡ 76 → ⊥) → (k ≡ 77 → ⊥) → (k ≡ 79 → ⊥) → 13 ≡ arm_of_kind k
-unfolding arm_of_kind
-kind-other k a b c d e = rw (ne_eqb k 74 a, ne_eqb k 75 b, ne_eqb k 76 c, ne_eqb k 77 d, ne_eqb k 79 e)
-
-module _ (n : ℕ) (a : n ≡ 6 → ⊥) (b : n ≡ 7 → ⊥) where
-  pub parts-union : 10 ≤ n → n < 13 → true ≡ has_parts n
-  unfolding has_parts
-  parts-union p q = let r : n ≤ 12 = omega arith in rw (ne_eqb n 6 a, ne_eqb n 7 b, le-leb 10 n p, le-leb n 12 r)
-
-  pub parts_low : n < 10 → false ≡ has_parts n
-  unfolding has_parts
-  parts_low p = rw (ne_eqb n 6 a, ne_eqb n 7 b, lt-leb 10 n p)
-
-  pub parts-high : 13 ≤ n → false ≡ has_parts n
-  unfolding has_parts
-  parts-high p = let r : 12 < n = omega arith in rw (ne_eqb n 6 a, ne_eqb n 7 b, lt-leb n 12 r, numeric-last (leb 10 n))
-
-pub both_first : (j k : ℕ) → numeric j ≡ false → false ≡ (numeric j && numeric k)
-both_first j k p = rw p
-
-pub both-second : (j k : ℕ) (r : Bool) → numeric j ≡ true → r ≡ numeric k → r ≡ (numeric j && numeric k)
-both-second j k r p q = rw p q
-
-module _ (j k : ℕ) where
-  pub kinds-number : (numeric j && numeric k) ≡ true → 5 ≡ arm_of_kinds j k
-  unfolding arm_of_kinds
-  kinds-number p = rw p
-
-  module _ (n : (numeric j && numeric k) ≡ false) where
-    pub kinds-first : j ≡ 79 → 11 ≡ arm_of_kinds j k
-    unfolding arm_of_kinds
-    kinds-first p = rw (n, eq-eqb j 79 p)
-
-    pub kinds-second : (j ≡ 79 → ⊥) → k ≡ 79 → 12 ≡ arm_of_kinds j k
-    unfolding arm_of_kinds
-    kinds-second p q = rw (n, ne_eqb j 79 p, eq-eqb k 79 q)
-
-    pub kinds-apart : (j ≡ 79 → ⊥) → (k ≡ 79 → ⊥) → 13 ≡ arm_of_kinds j k
-    unfolding arm_of_kinds
-    kinds-apart p q = rw (n, ne_eqb j 79 p, ne_eqb k 79 q)
-
-  pub unequal-null-first : j ≡ 66 → 3 ≡ arm_of_unequal j k
-  unfolding arm_of_unequal
-  unequal-null-first p = rw (eq-eqb j 66 p)
-
-  pub unequal-null-second : (j ≡ 66 → ⊥) → k ≡ 66 → 4 ≡ arm_of_unequal j k
-  unfolding arm_of_unequal
-  unequal-null-second p q = rw (ne_eqb j 66 p, eq-eqb k 66 q)
-
-  module _ (p : j ≡ 66 → ⊥) (q : k ≡ 66 → ⊥) (n : ℕ) where
-    pub unequal-kind : j ≡ k → n ≡ arm_of_kind k → n ≡ arm_of_unequal j k
-    unfolding arm_of_unequal
-    unequal-kind e h = rw (ne_eqb j 66 p, ne_eqb k 66 q, eq-eqb j k e) h
-
-    pub unequal-kinds : (j ≡ k → ⊥) → n ≡ arm_of_kinds j k → n ≡ arm_of_unequal j k
-    unfolding arm_of_unequal
-    unequal-kinds e h = rw (ne_eqb j 66 p, ne_eqb k 66 q, ne_eqb j k e) h

@@ -5,13 +5,13 @@ use mathlib.Core.Path.{◌≡◌, refl, sym, ◌∙◌, ap}
 use mathlib.Core.List.{[]}
 use mathlib.Core.Option.{Option, some}
 use lib.ListN.{length, drop, length-append}
-use Rattle.semantics.specs.Bytes.{Bytes}
+use Rattle.semantics.specs.Bytes.{Bytes, lex}
 use Rattle.semantics.specs.Ty.{Ty, Fields, ∅ᶠ, field, name_to, line_to, line}
 use Rattle.semantics.proofs.Order.{lex-lt, lex-gt, lex-eq, Tri, lt, eq, gt, tri}
 use Rattle.text.specs.Text.{Ends}
 use Rattle.ty.specs.declared.merging.Merge.{Merge}
 use Rattle.ty.specs.Parts.{TypeFrom, EndsAt}
-use Rattle.ty.specs.Merging.{HeadAt, SomeHead, head_to, next_of, NextIs, kept_text, taken_at, moved, Taking}
+use Rattle.ty.specs.Merging.{HeadAt, SomeHead, head_to, next_by, next_of, NextIs, kept_text, taken_at, moved, Taking}
 use Rattle.ty.proofs.Places.{past, room-past}
 use Rattle.ty.proofs.Lines.{line-to}
 use Rattle.ty.proofs.Members.{line-long}
@@ -19,11 +19,15 @@ use Rattle.ty.proofs.NameLaws.{name-ends}
 use Rattle.ty.proofs.MergeLaws.{kept-below, kept-long}
 use Rattle.unify_run.specs.Run.{Run, keep, run_maps}
 use Rattle.unify_run.proofs.Maps.{maps-left, maps-right, maps-first, maps-second}
-use Rattle.unify.specs.Work.{Below}
-use Rattle.unify.specs.Frames.{judged, Value, later, Room, EntriesAt, KeptAt}
+use Rattle.std.specs.Prelude.{Option as StdOption, Some, None}
+use Rattle.ty.specs.declared.merging.Side.{Side}
+use Rattle.ty.specs.declared.merging.Side.TheVariants.{First, Second, Both}
+use Rattle.unify.specs.Work.{judged, Room, Below}
+use Rattle.unify.specs.Entries.{Value, later, EntriesAt, KeptAt}
 use Rattle.unify.specs.Merges.{SomeEntry, EntryLong, MergeFor, SomeMerge, Common, ended, named, Lone}
-use Rattle.unify.proofs.Entries.{name-two, name-size, head_of, entries-head, FirstAt, first_at, below-refl, below-trans, entries-same}
-use Rattle.unify.proofs.KeptMap.{kept-within, kept_entry}
+use Rattle.unify.proofs.Marks.{below_then, below-entries}
+use Rattle.unify.proofs.EntryParts.{name-two, name-size, head_of, entries-head, FirstAt, first_at}
+use Rattle.unify.proofs.KeptMap.{kept-few, kept_entry}
 
 -- ## The length of an entry
 
@@ -59,40 +63,44 @@ module _ (s : Bytes) (p : ℕ) where
 -- ## What a turn takes
 
 -- an entry that one map has alone
-pub data Takes : ℕ → Fields → Fields → Type 0 where
-  left : (n : Bytes) (t : Ty) (fs gs : Fields) → ((k : Option Fields) → run_maps judged (field n t fs) gs k ≡ run_maps judged fs gs (keep n t k)) → Takes 0 (field n t fs) gs
-  right : (n : Bytes) (u : Ty) (fs gs : Fields) → ((k : Option Fields) → run_maps judged fs (field n u gs) k ≡ run_maps judged fs gs (keep n u k)) → Takes 1 fs (field n u gs)
+pub data Takes : Side → Fields → Fields → Type 0 where
+  left : (n : Bytes) (t : Ty) (fs gs : Fields) → ((k : Option Fields) → run_maps judged (field n t fs) gs k ≡ run_maps judged fs gs (keep n t k)) → Takes First (field n t fs) gs
+  right : (n : Bytes) (u : Ty) (fs gs : Fields) → ((k : Option Fields) → run_maps judged fs (field n u gs) k ≡ run_maps judged fs gs (keep n u k)) → Takes Second fs (field n u gs)
 
-pub takes : (x : ℕ) (fs gs : Fields) → x ≡ next_of (head_of fs) (head_of gs) → x < 2 → Takes x fs gs
+pub takes : (x : Side) (fs gs : Fields) → Some x ≡ next_of (head_of fs) (head_of gs) → (x ≡ Both → ⊥) → Takes x fs gs
 unfolding next_of
-takes x ∅ᶠ ∅ᶠ e h = absurd (omega arith)
-takes x ∅ᶠ (field m u gs) e h = rw e (right m u ∅ᶠ gs (maps-right judged m u gs))
-takes x (field n t fs) ∅ᶠ e h = rw e (left n t fs ∅ᶠ (maps-left judged n t fs))
-takes x (field n t fs) (field m u gs) e h = by (tri n m)
+takes x ∅ᶠ ∅ᶠ e h = absurd (cc)
+takes x ∅ᶠ (field m u gs) e h = let z : x ≡ Second = cc in rw z (right m u ∅ᶠ gs (maps-right judged m u gs))
+takes x (field n t fs) ∅ᶠ e h = let z : x ≡ First = cc in rw z (left n t fs ∅ᶠ (maps-left judged n t fs))
+takes x (field n t fs) (field m u gs) e h = by (tri n m) (cc)
   where
-    by : Tri n m → Takes x (field n t fs) (field m u gs)
-    by (lt w) = let z : x ≡ 0 = e ∙ rw (lex-lt w) in rw z (left n t fs (field m u gs) (λ k. maps-first judged n m t u fs gs k w))
-    by (eq w) = let z : x ≡ 2 = e ∙ rw (w, lex-eq m) in absurd (omega arith)
-    by (gt w) = let z : x ≡ 1 = e ∙ rw (lex-gt w) in rw z (right m u (field n t fs) gs (λ k. maps-second judged n m t u fs gs k w))
+    by : Tri n m → x ≡ next_by (lex n m) → Takes x (field n t fs) (field m u gs)
+    by (lt w) q = let z : x ≡ First = q ∙ ap next_by (lex-lt w) in rw z (left n t fs (field m u gs) (λ k. maps-first judged n m t u fs gs k w))
+    by (eq w) q = absurd (h (q ∙ rw (w, lex-eq m)))
+    by (gt w) q = let z : x ≡ Second = q ∙ ap next_by (lex-gt w) in rw z (right m u (field n t fs) gs (λ k. maps-second judged n m t u fs gs k w))
+
+-- none is left
+pub common-none : (fs gs : Fields) → None ≡ next_of (head_of fs) (head_of gs) → Common fs gs
+unfolding next_of
+common-none ∅ᶠ ∅ᶠ e = ended
+common-none ∅ᶠ (field m u gs) e = absurd (cc)
+common-none (field n t fs) ∅ᶠ e = absurd (cc)
+common-none (field n t fs) (field m u gs) e = absurd (cc)
 
 -- none is left that one map has alone
-pub common : (x : ℕ) (fs gs : Fields) → x ≡ next_of (head_of fs) (head_of gs) → 2 ≤ x → Common fs gs
+pub common-both : (fs gs : Fields) → Some Both ≡ next_of (head_of fs) (head_of gs) → Common fs gs
 unfolding next_of
-common x ∅ᶠ ∅ᶠ e h = ended
-common x ∅ᶠ (field m u gs) e h = absurd (omega arith)
-common x (field n t fs) ∅ᶠ e h = absurd (omega arith)
-common x (field n t fs) (field m u gs) e h = by (tri n m)
+common-both ∅ᶠ ∅ᶠ e = absurd (cc)
+common-both ∅ᶠ (field m u gs) e = absurd (let z : Both ≡ Second = cc in cc)
+common-both (field n t fs) ∅ᶠ e = absurd (let z : Both ≡ First = cc in cc)
+common-both (field n t fs) (field m u gs) e = by (tri n m) (cc)
   where
-    by : Tri n m → Common (field n t fs) (field m u gs)
-    by (lt w) = let z : x ≡ 0 = e ∙ rw (lex-lt w) in absurd (omega arith)
-    by (eq w) = rw w (named m t u fs gs)
-    by (gt w) = let z : x ≡ 1 = e ∙ rw (lex-gt w) in absurd (omega arith)
+    by : Tri n m → Both ≡ next_by (lex n m) → Common (field n t fs) (field m u gs)
+    by (lt w) q = absurd (let z : Both ≡ First = q ∙ ap next_by (lex-lt w) in cc)
+    by (eq w) q = rw w (named m t u fs gs)
+    by (gt w) q = absurd (let z : Both ≡ Second = q ∙ ap next_by (lex-gt w) in cc)
 
 -- ## A turn
-
-pub record Going (s : Bytes) (m : Merge) (to : ℕ) (R : Run) (x : ℕ) : Type 0 where
-  pub merge : MergeFor s m to R
-  pub next : x ≡ next_of (head_of merge.first) (head_of merge.second)
 
 pub first_head : {s : Bytes} {m : Merge} {to : ℕ} {R : Run} (g : MergeFor s m to R) → HeadAt s m.p (head_of g.first)
 first_head {s} {m} {to} g = entries-head s m.p to g.first g.first_at
@@ -100,10 +108,10 @@ first_head {s} {m} {to} g = entries-head s m.p to g.first g.first_at
 pub second_head : {s : Bytes} {m : Merge} {to : ℕ} {R : Run} (g : MergeFor s m to R) → HeadAt s m.q (head_of g.second)
 second_head {s} {m} {to} g = entries-head s m.q to g.second g.second_at
 
-pub kept_same : (s : Bytes) (from k to n : ℕ) → Below s (kept_text s from k to n) to
+pub kept_same : (s : Bytes) (from k to : ℕ) (n : StdOption ℕ) → Below s (kept_text s from k to n) to
 kept_same s from k to n = record { kept = kept-below s from k to n; long = kept-long s from k to n }
 
-pub record Step (s : Bytes) (m : Merge) (to : ℕ) (R : Run) (x : ℕ) : Type 0 where
+pub record Step (s : Bytes) (m : Merge) (to : ℕ) (R : Run) (x : Side) : Type 0 where
   pub name : Bytes
   pub ty : Ty
   pub rest : Bytes
@@ -114,7 +122,7 @@ pub record Step (s : Bytes) (m : Merge) (to : ℕ) (R : Run) (x : ℕ) : Type 0 
   pub turn : (k : ℕ) → k ≡ length name + 1 + length (line ty) → MergeFor (kept_text s (taken_at m x) k to m.n) (moved m x k) to R
 
 module _ {s : Bytes} {m : Merge} {to : ℕ} {R : Run} where
-  stepped : {x : ℕ} {fs gs : Fields} → Takes x fs gs → (k : Option Fields) → EntriesAt s m.p to fs → EntriesAt s m.q to gs → KeptAt s to m.n k
+  stepped : {x : Side} {fs gs : Fields} → Takes x fs gs → (k : Option Fields) → EntriesAt s m.p to fs → EntriesAt s m.q to gs → KeptAt s to m.n k
       → run_maps judged fs gs k ≡ R → ((x y : Ty) → Value x fs → Value y gs → Room s to x y) → to + 1024 ≤ length s → Step s m to R x
   unfolding taken_at moved
   stepped (left n t fs gs same) k fa ga ka c rooms room =
@@ -124,7 +132,7 @@ module _ {s : Bytes} {m : Merge} {to : ℕ} {R : Run} where
         ty = t;
         rest = (F (length n + 1 + length (line t)) refl).rest;
         at = (F (length n + 1 + length (line t)) refl).from;
-        taking = λ j e. record { first = λ _. (F j e).value.below; second = λ z. absurd (z refl); room = room; kept = kept-within s to m.n k ka };
+        taking = λ j e. record { first = λ _. (F j e).value.below; second = λ z. absurd (z refl); room = room; few = kept-few s to m.n k ka };
         less = λ j e. let b = (F j e).value.below in omega arith;
         onward = λ j. omega arith;
         turn = λ j e.
@@ -133,9 +141,9 @@ module _ {s : Bytes} {m : Merge} {to : ℕ} {R : Run} where
               first = fs;
               second = gs;
               k = keep n t k;
-              first_at = entries-same s (kept_text s m.p j to m.n) to (m.p + j) fs b (F j e).others;
-              second_at = entries-same s (kept_text s m.p j to m.n) to m.q gs b ga;
-              kept = kept_entry s m.p j to m.n room k n t ka (F j e).part e;
+              first_at = below-entries b (F j e).others;
+              second_at = below-entries b ga;
+              kept = kept_entry s m.p j to room m.n k n t ka (F j e).part e;
               comes = sym (same k) ∙ c;
               rooms = λ x y v w. let r = rooms x y (later v) w in omega (arith, b.long);
               room = omega (arith, b.long);
@@ -148,7 +156,7 @@ module _ {s : Bytes} {m : Merge} {to : ℕ} {R : Run} where
         ty = u;
         rest = (F (length n + 1 + length (line u)) refl).rest;
         at = (F (length n + 1 + length (line u)) refl).from;
-        taking = λ j e. record { first = λ z. absurd (z refl); second = λ _. (F j e).value.below; room = room; kept = kept-within s to m.n k ka };
+        taking = λ j e. record { first = λ z. absurd (z refl); second = λ _. (F j e).value.below; room = room; few = kept-few s to m.n k ka };
         less = λ j e. let b = (F j e).value.below in omega arith;
         onward = λ j. omega arith;
         turn = λ j e.
@@ -157,82 +165,74 @@ module _ {s : Bytes} {m : Merge} {to : ℕ} {R : Run} where
               first = fs;
               second = gs;
               k = keep n u k;
-              first_at = entries-same s (kept_text s m.q j to m.n) to m.p fs b fa;
-              second_at = entries-same s (kept_text s m.q j to m.n) to (m.q + j) gs b (F j e).others;
-              kept = kept_entry s m.q j to m.n room k n u ka (F j e).part e;
+              first_at = below-entries b fa;
+              second_at = below-entries b (F j e).others;
+              kept = kept_entry s m.q j to room m.n k n u ka (F j e).part e;
               comes = sym (same k) ∙ c;
               rooms = λ x y v w. let r = rooms x y v (later w) in omega (arith, b.long);
               room = omega (arith, b.long);
             };
       }
 
-pub step : {s : Bytes} {m : Merge} {to : ℕ} {R : Run} {x : ℕ} → Going s m to R x → x < 2 → Step s m to R x
-step {x = x} w h =
-    let g = w.merge in
-    stepped (takes x g.first g.second w.next h) g.k g.first_at g.second_at g.kept g.comes g.rooms g.room
-
 -- ## The loop
 
-pub record LoneInv (s₀ : Bytes) (start : Merge) (to : ℕ) (s : Bytes) (m : Merge) (x : ℕ) : Type 0 where
+pub record LoneInv (s₀ : Bytes) (start : Merge) (to : ℕ) (s : Bytes) (m : Merge) : Type 0 where
   pub some : SomeMerge s₀ start to
   pub below : Below s₀ s to
   pub past : start.p ≤ m.p
-  pub going : (R : Run) → MergeFor s₀ start to R → Going s m to R x
+  pub going : (R : Run) → MergeFor s₀ start to R → MergeFor s m to R
 
-pub some-heads : {s : Bytes} {m : Merge} {to : ℕ} → SomeMerge s m to → SomeHead s m.p × SomeHead s m.q
-some-heads h = let g = h.merge in (record { head = head_of g.first; at = first_head g }, record { head = head_of g.second; at = second_head g })
+pub some-heads : {s : Bytes} {m : Merge} {to : ℕ} {R : Run} → MergeFor s m to R → SomeHead s m.p × SomeHead s m.q
+some-heads g = (record { head = head_of g.first; at = first_head g }, record { head = head_of g.second; at = second_head g })
 
-pub start-inv : {s : Bytes} {m : Merge} {to x : ℕ} → SomeMerge s m to → NextIs s m.p m.q x → LoneInv s m to s m x
-start-inv {s} {m} {to} {x} h n =
-    record {
-      some = h;
-      below = below-refl s to;
-      past = omega arith;
-      going = λ R g. record { merge = g; next = n (head_of g.first) (head_of g.second) (first_head g) (second_head g) };
-    }
+module _ {s₀ : Bytes} {start : Merge} {to : ℕ} {s : Bytes} {m : Merge} (inv : LoneInv s₀ start to s m) where
+  some-now : MergeFor s m to inv.some.run
+  some-now = inv.going inv.some.run inv.some.merge
 
--- a turn of the loop
-module _ (s₀ : Bytes) (start : Merge) (to : ℕ) (s : Bytes) (m : Merge) (x : ℕ) (inv : LoneInv s₀ start to s m x) (h : x < 2) where
-  own : (R : Run) → MergeFor s₀ start to R → Step s m to R x
-  own R g = step (inv.going R g) h
+  pub turn-heads : SomeHead s m.p × SomeHead s m.q
+  turn-heads = some-heads some-now
 
-  some-step : Step s m to inv.some.run x
-  some-step = own inv.some.run inv.some.merge
+  -- an entry is taken
+  module _ {x : Side} (n : NextIs s m.p m.q (Some x)) (h : x ≡ Both → ⊥) where
+    step : {R : Run} → MergeFor s m to R → Step s m to R x
+    step g = stepped (takes x g.first g.second (n (head_of g.first) (head_of g.second) (first_head g) (second_head g)) h) g.k g.first_at g.second_at g.kept g.comes g.rooms g.room
 
-  pub turn-entry : (p : ℕ) → p ≡ taken_at m x → SomeEntry s p
-  turn-entry p e = let w = some-step in rw e (record { name = w.name; ty = w.ty; rest = w.rest; is = w.at })
+    pub turn-entry : (p : ℕ) → p ≡ taken_at m x → SomeEntry s p
+    turn-entry p e = let w = step some-now in rw e (record { name = w.name; ty = w.ty; rest = w.rest; is = w.at })
 
-  module _ (p k : ℕ) (ep : p ≡ taken_at m x) (ek : EntryLong s p k) where
-    size : {R : Run} (w : Step s m to R x) → k ≡ length w.name + 1 + length (line w.ty)
-    size w = ek w.name w.ty w.rest (rw ep w.at)
+    module _ (p k : ℕ) (ep : p ≡ taken_at m x) (ek : EntryLong s p k) where
+      size : {R : Run} (w : Step s m to R x) → k ≡ length w.name + 1 + length (line w.ty)
+      size w = ek w.name w.ty w.rest (rw ep w.at)
 
-    pub turn-taking : Taking s m x k to
-    turn-taking = some-step.taking k (size some-step)
+      pub turn-taking : Taking s m x k to
+      turn-taking = (step some-now).taking k (size (step some-now))
 
-    module _ (s' : Bytes) (m' : Merge) (em : m' ≡ moved m x k) (es : s' ≡ kept_text s (taken_at m x) k to m.n) where
-      pub turn-less : (to - m'.p) + (to - m'.q) < (to - m.p) + (to - m.q)
-      turn-less = rw em (some-step.less k (size some-step))
+      module _ (s' : Bytes) (m' : Merge) (em : m' ≡ moved m x k) (es : s' ≡ kept_text s (taken_at m x) k to m.n) where
+        pub turn-less : (to - m'.p) + (to - m'.q) < (to - m.p) + (to - m.q)
+        turn-less = rw em ((step some-now).less k (size (step some-now)))
 
-      after : (R : Run) → MergeFor s₀ start to R → MergeFor s' m' to R
-      after R g = let w = own R g in rw (em, es) (w.turn k (size w))
+        pub turn-again : LoneInv s₀ start to s' m'
+        turn-again =
+            record {
+              some = inv.some;
+              below = below_then inv.below (rw es (kept_same s (taken_at m x) k to m.n));
+              past = let a = (step some-now).onward k in let b = inv.past in rw em (omega arith);
+              going = λ R g. let w = step (inv.going R g) in rw (em, es) (w.turn k (size w));
+            }
 
-      pub turn-heads : SomeHead s' m'.p × SomeHead s' m'.q
-      turn-heads = some-heads (record { run = inv.some.run; merge = after inv.some.run inv.some.merge })
+  -- its end
+  pub lone-both : NextIs s m.p m.q (Some Both) → Lone s₀ s start to m
+  lone-both n =
+      record {
+        below = inv.below;
+        past = inv.past;
+        met = λ R g. let w = inv.going R g in record { merge = w; common = common-both w.first w.second (n (head_of w.first) (head_of w.second) (first_head w) (second_head w)) };
+      }
 
-      pub turn-again : (x' : ℕ) → NextIs s' m'.p m'.q x' → LoneInv s₀ start to s' m' x'
-      turn-again x' n =
-          record {
-            some = inv.some;
-            below = below-trans inv.below (rw es (kept_same s (taken_at m x) k to m.n));
-            past = let a = some-step.onward k in let b = inv.past in rw em (omega arith);
-            going = λ R g. let w = after R g in record { merge = w; next = n (head_of w.first) (head_of w.second) (first_head w) (second_head w) };
-          }
-
--- its end
-pub lone : (s₀ : Bytes) (start : Merge) (to : ℕ) (s : Bytes) (m : Merge) (x : ℕ) → LoneInv s₀ start to s m x → 2 ≤ x → Lone s₀ s start to m
-lone s₀ start to s m x inv h =
-    record {
-      below = inv.below;
-      past = inv.past;
-      met = λ R g. let w = inv.going R g in record { merge = w.merge; common = common x w.merge.first w.merge.second w.next h };
-    }
+  pub lone-none : NextIs s m.p m.q None → Lone s₀ s start to m
+  lone-none n =
+      record {
+        below = inv.below;
+        past = inv.past;
+        met = λ R g. let w = inv.going R g in record { merge = w; common = common-none w.first w.second (n (head_of w.first) (head_of w.second) (first_head w) (second_head w)) };
+      }

@@ -1,4 +1,5 @@
 -- Null and a type: `with_null` and `unify_null`. Assumes nothing.
+use Rattle.std.specs.Prelude.{Option as StdOption, Some, None}
 use mathlib.Core.Path.{◌≡◌, refl, sym, ◌∙◌, ap, subst}
 use mathlib.Core.List.{List, [], ◌∷◌}
 use mathlib.Core.Logic.{◌⊎◌, inl, inr, ⊎_elim}
@@ -14,19 +15,20 @@ use Rattle.semantics.specs.Ty.{t_null, Ty, base, t_union, members, letter, line_
 use Rattle.semantics.proofs.Order.{line_eq, Tri, lt, eq, gt, tri, insert-lt, insert-eq, insert-gt}
 use Rattle.text.proofs.Laws.{slice-below, slice-sets, copied}
 use Rattle.ty.specs.Parts.{lines_of, TypeAt}
-use Rattle.ty.specs.Union.{TypesAt, overlong, grown, Adding, AddedAll, Grew}
-use Rattle.ty.specs.declared.Grown.{Grown}
-use Rattle.ty.specs.declared.Grown.TheVariants.{Len, TooLarge}
+use Rattle.ty.specs.Made.{made}
+use Rattle.ty.specs.Union.{TypesAt, overlong, Adding, AddedAll, Grew}
 use Rattle.ty.proofs.Members.{types_long, as-types}
 use Rattle.ty.proofs.UnionEnds.{is_union_lem, is-other, union-room, union-members}
 use Rattle.unify_run.specs.Run.{large, checked, long, fitting, add, sizes, nullable}
 use Rattle.unify_run.proofs.Size.{joined-two}
-use Rattle.unify.specs.Work.{Below}
+use Rattle.std.specs.Prelude.{Err}
+use Rattle.unify.specs.declared.Span.{Span}
+use Rattle.unify.specs.declared.UnifyError.TheVariants.{TooLarge}
+use Rattle.unify.specs.Work.{Unified, span, Below}
 use Rattle.unify.specs.Made.{SomeUnion, ClosedUnion}
 use Rattle.unify.specs.Flat.{SomeOperand, OneAnswer, with_null, SomeTypes, NullAnswer}
-use Rattle.unify.specs.declared.Unified.{Unified}
 use Rattle.ty.proofs.Lent.{types-down, types-front, put_back, types_up}
-use Rattle.unify.proofs.Operands.{below-same, below-sets, below_then, put-below}
+use Rattle.unify.proofs.Marks.{below-same, below-sets, below_then, put-below}
 
 -- ## `with_null`
 
@@ -93,43 +95,47 @@ null-room ts e = ⊎_elim alone two (insert-two (base t_null) ts)
         let m = ltb-false type_limit (length (line (joined (Nulled ts)))) e in
         omega arith
 
-null_size : {s : Bytes} {from n : ℕ} {ts : List Ty} → TypesAt s from (from + n) ts → sizes ts ≡ n
-null_size {ts = ts} f = omega (arith, types_long f, sizes-lines ts)
+-- n bytes of types
+module _ {s : Bytes} {a : Span} {n : ℕ} (e : n ≡ a.to - a.from) {ts : List Ty} (f : TypesAt s a.from a.to ts) where
+  counted : TypesAt s a.from (a.from + n) ts
+  counted = let z : a.to ≡ a.from + n = omega (arith, f.ordered) in subst (λ (k : ℕ). TypesAt s a.from k ts) z f
 
-pub null-bounds : {s : Bytes} {from n mark : ℕ} → SomeTypes s from n mark → n + 2 ≤ 1024 → (from + n ≤ mark) × (mark + n + 2 ≤ length s) × (from + n ≤ length s)
-null-bounds p h = let b = p.below in let r = p.room in (omega arith, omega arith, omega arith)
+  null_size : sizes ts ≡ n
+  null_size = omega (arith, types_long f, sizes-lines ts)
 
-pub null-too-long : {s : Bytes} {from n mark : ℕ} → 1024 < n + 2 → NullAnswer s s from n mark Unified.TooLarge
-null-too-long {s} {from} {n} {mark} h =
-    record { below = below-same s mark; answer = λ ts f. let z = null_size f in rw (null-long ts (omega arith)) tt }
+pub null-bounds : {s : Bytes} {a : Span} {n mark : ℕ} → n ≡ a.to - a.from → SomeTypes s a mark → n + 2 ≤ 1024 → (a.from + n ≤ mark) × (mark + n + 2 ≤ length s) × (a.from + n ≤ length s)
+null-bounds e p h = let b = p.below in let r = p.room in let o = p.at.ordered in (omega arith, omega arith, omega arith)
+
+pub null-too-long : {s : Bytes} {a : Span} {n mark : ℕ} → n ≡ a.to - a.from → 1024 < n + 2 → NullAnswer s s a mark (Err TooLarge)
+null-too-long {s} {a} {n} {mark} e h = record { below = below-same s mark; answer = λ ts f. let z = null_size e f in rw (null-long ts (omega arith)) tt }
 
 -- the types and Null behind each other at the mark
-module _ {s s₁ s₂ : Bytes} {from n mark : ℕ} (p : SomeTypes s from n mark) (h : n + 2 ≤ 1024) (w : s₁ ≡ sets s mark (slice from (from + n) s)) (v : s₂ ≡ sets s₁ (mark + n) (66 ∷ 44 ∷ [])) where
+module _ {s s₁ s₂ : Bytes} {a : Span} {n mark : ℕ} (e : n ≡ a.to - a.from) (p : SomeTypes s a mark) (h : n + 2 ≤ 1024) (w : s₁ ≡ sets s mark (slice a.from (a.from + n) s)) (v : s₂ ≡ sets s₁ (mark + n) (66 ∷ 44 ∷ [])) where
   null-long₁ : length s₁ ≡ length s
-  null-long₁ = ap length w ∙ length-sets s mark (slice from (from + n) s)
+  null-long₁ = ap length w ∙ length-sets s mark (slice a.from (a.from + n) s)
 
   pub null-below : Below s s₂ mark
   null-below =
       rw (v, w)
-      (below_then (below-sets s mark mark (slice from (from + n) s) (omega arith)) (below-sets (sets s mark (slice from (from + n) s)) mark (mark + n) (66 ∷ 44 ∷ []) (omega arith)))
+      (below_then (below-sets s mark mark (slice a.from (a.from + n) s) (omega arith)) (below-sets (sets s mark (slice a.from (a.from + n) s)) mark (mark + n) (66 ∷ 44 ∷ []) (omega arith)))
 
-  null-front : {ts : List Ty} → TypesAt s from (from + n) ts → TypesAt s₂ mark (mark + n) ts
+  null-front : {ts : List Ty} → TypesAt s a.from a.to ts → TypesAt s₂ mark (mark + n) ts
   null-front f =
-      let b = null-bounds p h in
+      let b = null-bounds e p h in
       record {
         ordered = omega arith;
         inside = omega (arith, null-below.long);
         is = ap (λ (l : Bytes). slice mark (mark + n) l) v
             ∙ slice-below mark (mark + n) s₁ (mark + n) (66 ∷ 44 ∷ []) (omega arith)
             ∙ ap (λ (l : Bytes). slice mark (mark + n) l) w
-            ∙ copied s from mark n (omega arith) (omega arith)
-            ∙ f.is;
+            ∙ copied s a.from mark n (omega arith) (omega arith)
+            ∙ (counted e f).is;
       }
 
   null-new : TypesAt s₂ (mark + n) (mark + (n + 2)) (base t_null ∷ [])
   unfolding lines_of line line_to letter
   null-new =
-      let b = null-bounds p h in
+      let b = null-bounds e p h in
       let z : mark + (n + 2) ≡ mark + n + 2 = omega arith in
       let i : mark + n + 2 ≤ length s₁ = omega (arith, null-long₁) in
       record {
@@ -141,56 +147,56 @@ module _ {s s₁ s₂ : Bytes} {from n mark : ℕ} (p : SomeTypes s from n mark)
   pub null-adding : Adding (take (length s₂ - mark) (drop mark s₂)) n (n + 2)
   null-adding = record { members = p.types; types = base t_null ∷ []; front = types-front (null-front p.at); new = types-down s₂ mark n (n + 2) null-new }
 
-  module _ (t : Bytes) (r : Grown) (l : length t ≡ length (take (length s₂ - mark) (drop mark s₂))) (g : AddedAll (take (length s₂ - mark) (drop mark s₂)) t n (n + 2) r) where
-    null-grew : (ts : List Ty) → TypesAt s from (from + n) ts → Grew (take (length s₂ - mark) (drop mark s₂)) t (n + 2) (Nulled ts) r
+  module _ (t : Bytes) (r : StdOption ℕ) (l : length t ≡ length (take (length s₂ - mark) (drop mark s₂))) (g : AddedAll (take (length s₂ - mark) (drop mark s₂)) t n (n + 2) r) where
+    null-grew : (ts : List Ty) → TypesAt s a.from a.to ts → Grew (take (length s₂ - mark) (drop mark s₂)) t (n + 2) (Nulled ts) r
     null-grew ts f = g ts (base t_null ∷ []) (types-front (null-front f)) (types-down s₂ mark n (n + 2) null-new)
 
     null-in : mark ≤ length s₂
-    null-in = let b = null-bounds p h in omega (arith, null-below.long)
+    null-in = let b = null-bounds e p h in omega (arith, null-below.long)
 
     pub null-put : Below s (put_back s₂ mark t) mark
     null-put = below_then null-below (put-below s₂ t mark null-in l)
 
     -- what the answer says
-    grown-len : (us : List Ty) {k : ℕ} → r ≡ Len k → r ≡ grown (overlong us) (length (lines_of us)) → (overlong us ≡ false) × (k ≡ length (lines_of us))
-    grown-len us {k} e a = go (overlong us) (sym e ∙ a)
+    grown-len : (us : List Ty) {k : ℕ} → r ≡ Some k → r ≡ made (overlong us) (length (lines_of us)) → (overlong us ≡ false) × (k ≡ length (lines_of us))
+    grown-len us {k} d a = go (overlong us) (sym d ∙ a)
       where
-        go : (b : Bool) → Len k ≡ grown b (length (lines_of us)) → (b ≡ false) × (k ≡ length (lines_of us))
+        go : (b : Bool) → Some k ≡ made b (length (lines_of us)) → (b ≡ false) × (k ≡ length (lines_of us))
         go true q = absurd (let z : ◌≡◌ {A = ℕ} 0 1 = cc in omega arith)
         go false q = (refl, cc)
 
-    grown-over : (us : List Ty) → r ≡ TooLarge → r ≡ grown (overlong us) (length (lines_of us)) → overlong us ≡ true
-    grown-over us e a = go (overlong us) (sym e ∙ a)
+    grown-over : (us : List Ty) → r ≡ None → r ≡ made (overlong us) (length (lines_of us)) → overlong us ≡ true
+    grown-over us d a = go (overlong us) (sym d ∙ a)
       where
-        go : (b : Bool) → TooLarge ≡ grown b (length (lines_of us)) → b ≡ true
+        go : (b : Bool) → None ≡ made b (length (lines_of us)) → b ≡ true
         go true q = refl
         go false q = absurd (let z : ◌≡◌ {A = ℕ} 0 1 = cc in omega arith)
 
-    null-at : (ts : List Ty) → TypesAt s from (from + n) ts → {k : ℕ} → r ≡ Len k → (overlong (Nulled ts) ≡ false) × TypesAt (put_back s₂ mark t) mark (mark + k) (Nulled ts)
-    null-at ts f {k} e =
+    null-at : (ts : List Ty) → TypesAt s a.from a.to ts → {k : ℕ} → r ≡ Some k → (overlong (Nulled ts) ≡ false) × TypesAt (put_back s₂ mark t) mark (mark + k) (Nulled ts)
+    null-at ts f {k} d =
         let w = null-grew ts f in
-        let (o, z) = grown-len (Nulled ts) e w.answer in
+        let (o, z) = grown-len (Nulled ts) d w.answer in
         (o, rw z (types_up s₂ t mark null-in l w.front))
 
-    pub null-union : {k : ℕ} → r ≡ Len k → SomeUnion (put_back s₂ mark t) mark k
-    null-union {k} e =
+    pub null-union : {k : ℕ} → r ≡ Some k → SomeUnion (put_back s₂ mark t) mark k
+    null-union {k} d =
         let w = null-grew p.types p.at in
-        let (o, z) = grown-len (Nulled p.types) e w.answer in
+        let (o, z) = grown-len (Nulled p.types) d w.answer in
         let m = null-room p.types o in
-        record { members = Nulled p.types; at = (null-at p.types p.at e).1; room = omega (arith, null-put.long, p.room) }
+        record { members = Nulled p.types; at = (null-at p.types p.at d).1; room = omega (arith, null-put.long, p.room) }
 
-    pub null-closed : {k : ℕ} {s₃ : Bytes} {u : Unified} → r ≡ Len k → ClosedUnion (put_back s₂ mark t) s₃ mark k u → NullAnswer s s₃ from n mark u
-    null-closed {k} {s₃} {u} e c =
+    pub null-closed : {k : ℕ} {s₃ : Bytes} {u : Unified} → r ≡ Some k → ClosedUnion (put_back s₂ mark t) s₃ mark k u → NullAnswer s s₃ a mark u
+    null-closed {k} {s₃} {u} d c =
         record {
           below = below_then null-put c.below;
-          answer = λ ts f. let a = null-at ts f e in let z = null_size f in rw (null-fits ts (omega arith) a.0) (c.answer (Nulled ts) a.1);
+          answer = λ ts f. let a = null-at ts f d in let z = null_size e f in rw (null-fits ts (omega arith) a.0) (c.answer (Nulled ts) a.1);
         }
 
-    pub null-large : r ≡ TooLarge → NullAnswer s (put_back s₂ mark t) from n mark Unified.TooLarge
-    null-large e =
+    pub null-large : r ≡ None → NullAnswer s (put_back s₂ mark t) a mark (Err TooLarge)
+    null-large d =
         record {
           below = null-put;
-          answer = λ ts f. let z = null_size f in rw (null-over ts (omega arith) (grown-over (Nulled ts) e (null-grew ts f).answer)) tt;
+          answer = λ ts f. let z = null_size e f in rw (null-over ts (omega arith) (grown-over (Nulled ts) d (null-grew ts f).answer)) tt;
         }
 
 -- ## `unify_null`
@@ -199,38 +205,31 @@ nullable-opened : (t : Ty) → nullable t ≡ with_null (opened t)
 unfolding nullable with_null
 nullable-opened t = refl
 
-opened-types : {s : Bytes} {a e : ℕ} {x : Ty} → TypeAt s a e x → get_or s a 0 ≡ 79 → (a + 4 ≤ e) × TypesAt s (a + 2) (a + 2 + (e - a - 4)) (opened x)
+opened-types : {s : Bytes} {a e : ℕ} {x : Ty} → TypeAt s a e x → get_or s a 0 ≡ 79 → (a + 4 ≤ e) × TypesAt s (a + 2) (e - 2) (opened x)
 unfolding opened
 opened-types {s} {a} {e} {x} f h =
     let (us, q) = is_union_lem f h in
     let g : TypeAt s a e (t_union us) = subst (λ (t : Ty). TypeAt s a e t) q f in
     let r = union-room us g in
-    let z : e - a - 4 ≡ length (lines_of (members us)) = omega arith in
+    let z : e - 2 ≡ a + 2 + length (lines_of (members us)) = omega arith in
     (omega arith, rw (q, z) (union-members us g))
 
-plain-types : {s : Bytes} {a e : ℕ} {x : Ty} → TypeAt s a e x → (get_or s a 0 ≡ 79 → ⊥) → TypesAt s a (a + (e - a)) (opened x)
-plain-types {s} {a} {e} {x} f h =
-    let o = f.ordered in
-    let z : a + (e - a) ≡ e = omega arith in
-    rw (is-other f h, z) (as-types f)
+plain-types : {s : Bytes} {a e : ℕ} {x : Ty} → TypeAt s a e x → (get_or s a 0 ≡ 79 → ⊥) → TypesAt s a e (opened x)
+plain-types f h = rw (is-other f h) (as-types f)
 
-module _ {s : Bytes} {a e mark : ℕ} (p : SomeOperand s a e mark) where
-  pub opened-null : get_or s a 0 ≡ 79 → (4 ≤ e - a) × SomeTypes s (a + 2) (e - a - 4) mark
-  opened-null h =
-      let f = opened-types p.at.at h in
-      let l = f.0 in
-      let b = p.at.below in
-      (omega arith, record { types = opened p.ty; at = f.1; below = omega arith; room = p.room })
+module _ {s : Bytes} {a : Span} {mark : ℕ} (p : SomeOperand s a mark) where
+  pub union-long : get_or s a.from 0 ≡ 79 → a.from + 4 ≤ a.to
+  union-long h = (opened-types p.at.at h).0
 
-  pub plain-null : (get_or s a 0 ≡ 79 → ⊥) → SomeTypes s a (e - a) mark
-  plain-null h =
-      let b = p.at.below in
-      let o = p.at.at.ordered in
-      record { types = opened p.ty; at = plain-types p.at.at h; below = omega arith; room = p.room }
+  pub opened-null : get_or s a.from 0 ≡ 79 → SomeTypes s (span (a.from + 2) (a.to - 2)) mark
+  opened-null h = let b = p.at.below in record { types = opened p.ty; at = (opened-types p.at.at h).1; below = omega arith; room = p.room }
 
-module _ {s s' : Bytes} {a e mark : ℕ} {r : Unified} where
-  pub opened-nullable : get_or s a 0 ≡ 79 → NullAnswer s s' (a + 2) (e - a - 4) mark r → OneAnswer nullable s s' a e mark r
+  pub plain-null : (get_or s a.from 0 ≡ 79 → ⊥) → SomeTypes s a mark
+  plain-null h = record { types = opened p.ty; at = plain-types p.at.at h; below = p.at.below; room = p.room }
+
+module _ {s s' : Bytes} {a : Span} {mark : ℕ} {r : Unified} where
+  pub opened-nullable : get_or s a.from 0 ≡ 79 → NullAnswer s s' (span (a.from + 2) (a.to - 2)) mark r → OneAnswer nullable s s' a mark r
   opened-nullable h n = record { below = n.below; answer = λ t o. rw (nullable-opened t) (n.answer (opened t) (opened-types o.at h).1) }
 
-  pub plain-nullable : (get_or s a 0 ≡ 79 → ⊥) → NullAnswer s s' a (e - a) mark r → OneAnswer nullable s s' a e mark r
+  pub plain-nullable : (get_or s a.from 0 ≡ 79 → ⊥) → NullAnswer s s' a mark r → OneAnswer nullable s s' a mark r
   plain-nullable h n = record { below = n.below; answer = λ t o. rw (nullable-opened t) (n.answer (opened t) (plain-types o.at h)) }

@@ -1,4 +1,5 @@
--- Types join the running union of a frame, where it stands. Assumes nothing.
+-- Types join the running union, where it stands. Assumes nothing.
+use Rattle.std.specs.Prelude.{Option as StdOption, Some, None}
 use mathlib.Core.Path.{◌≡◌, refl, sym, subst}
 use mathlib.Core.List.{List, [], ◌∷◌, ◌++◌}
 use mathlib.Core.Option.{Option, none, some}
@@ -11,16 +12,14 @@ use Rattle.semantics.specs.Bytes.{Bytes}
 use Rattle.semantics.specs.Ty.{Ty, line, inserts, too_large}
 use Rattle.ty.specs.Parts.{lines_of, TypeAt, TypeFrom, EndsAt}
 use Rattle.ty.specs.Union.{TypesAt, Adding, AddedAll}
-use Rattle.ty.specs.declared.Grown.{Grown}
-use Rattle.ty.specs.declared.Grown.TheVariants.{Len, TooLarge}
 use Rattle.ty.proofs.KindLaws.{two_at}
 use Rattle.ty.proofs.Members.{first-from, first_at, others-at}
 use Rattle.ty.proofs.UnionEnds.{type-long}
 use Rattle.unify_run.specs.Run.{given, add, widen}
 use Rattle.unify_run.proofs.Size.{small-sound}
-use Rattle.unify.specs.Work.{Operand, Below}
-use Rattle.unify.specs.Frames.{Plain}
-use Rattle.unify.specs.Variants.{RunningAt, FewAt, Joining, Grows, Joined, Widening, Widened}
+use Rattle.unify.specs.Work.{span, Operand, Below}
+use Rattle.unify.specs.declared.Span.{Span}
+use Rattle.unify.specs.Variants.{Plain, RunningAt, FewAt, Joining, Grows, Joined, Widening, Widened}
 use Rattle.unify.proofs.Marks.{below_then, below-types, part-types, back_below, back-types, below-sets, copied-before, copied-types}
 use Rattle.unify.proofs.UnionRun.{grows}
 
@@ -43,7 +42,7 @@ module _ {s : Bytes} {a e : ℕ} {t : Ty} {ts : List Ty} (g : TypesAt s a e (t �
     pub first-less : (a + 2 ≤ m) × (m ≤ e)
     first-less = (two_at s a m t first_is, rest-is.ordered)
 
-    pub first-operand : {mark : ℕ} → e ≤ mark → Plain t → Operand s a m mark t
+    pub first-operand : {mark : ℕ} → e ≤ mark → Plain t → Operand s (span a m) mark t
     first-operand b p = record { at = first_is; below = omega (arith, first-less); regular = p.regular; small = p.small }
 
 -- a type that is not too large is short
@@ -52,79 +51,81 @@ small-long {s} {a} {e} {t} g h = omega (arith, type-long g, (small-sound t h).0)
 
 -- ## Types join the running union
 
-module _ {s : Bytes} {from to mark n : ℕ} (j : Joining s from to mark n) where
-  pub join-order : from ≤ to
-  join-order = j.new.at.ordered
-
-  pub join-room : mark + n + (to - from) ≤ length s
+module _ {s : Bytes} {a : Span} {mark n : ℕ} (j : Joining s a mark n) where
+  pub join-room : mark + n + (a.to - a.from) ≤ length s
   join-room = omega (arith, j.room, j.running.fit, j.new.few)
 
-copied-running : {s s₁ : Bytes} (from to : ℕ) {mark n : ℕ} {ms : List Ty} → s₁ ≡ sets s (mark + n) (slice from (from + (to - from)) s) → RunningAt s mark n ms → TypesAt s₁ mark (mark + n) ms
-copied-running {s} {s₁} from to {mark} {n} w r = copied-before (slice from (from + (to - from)) s) w (omega arith) r.at
+-- k bytes of types, copied behind the members
+copied-running : {s s₁ : Bytes} (from k : ℕ) {mark n : ℕ} {ms : List Ty} → s₁ ≡ sets s (mark + n) (slice from (from + k) s) → RunningAt s mark n ms → TypesAt s₁ mark (mark + n) ms
+copied-running {s} from k w r = copied-before (slice from (from + k) s) w (omega arith) r.at
 
-copied-new : {s s₁ : Bytes} {from to mark : ℕ} (n : ℕ) {ts : List Ty} → s₁ ≡ sets s (mark + n) (slice from (from + (to - from)) s) → mark + n + (to - from) ≤ length s → FewAt s from to mark ts
-    → TypesAt s₁ (mark + n) (mark + n + (to - from)) ts
-copied-new {s} {s₁} {from} {to} {mark} n {ts} w h f = copied-types (to - from) w h (subst (λ (k : ℕ). TypesAt s from k ts) (omega (arith, f.at.ordered)) f.at)
+copied-new : {s s₁ : Bytes} (a : Span) {mark : ℕ} (n k : ℕ) {ts : List Ty} → k ≡ a.to - a.from → s₁ ≡ sets s (mark + n) (slice a.from (a.from + k) s) → mark + n + k ≤ length s → FewAt s a mark ts
+    → TypesAt s₁ (mark + n) (mark + n + k) ts
+copied-new {s} a n k {ts} e w h f = copied-types k w h (subst (λ (i : ℕ). TypesAt s a.from i ts) (omega (arith, f.at.ordered, e)) f.at)
 
-module _ {s s₁ : Bytes} {from to mark n : ℕ} (j : Joining s from to mark n) (w : s₁ ≡ sets s (mark + n) (slice from (from + (to - from)) s)) (l : length s₁ ≡ length s) where
-  pub join-adding : Adding (take (length s₁ - mark) (drop mark s₁)) n (n + (to - from))
-  join-adding =
-      record {
-        members = j.members;
-        types = j.types;
-        front = part-types s₁ mark 0 n (omega arith) refl (copied-running from to w j.running);
-        new = part-types s₁ mark n (n + (to - from)) refl (omega arith) (copied-new n w (join-room j) j.new);
-      }
+module _ {s s₁ : Bytes} {a : Span} {mark n k : ℕ} (e : k ≡ a.to - a.from) (w : s₁ ≡ sets s (mark + n) (slice a.from (a.from + k) s)) where
+  module _ (j : Joining s a mark n) (l : length s₁ ≡ length s) where
+    join-fits : mark + n + k ≤ length s
+    join-fits = omega (arith, join-room j, e)
 
-  pub joined-law : {s₂ : Bytes} (p : Bytes) {r : Grown} → length p ≡ length (take (length s₁ - mark) (drop mark s₁)) → s₂ ≡ take mark s₁ ++ (p ++ drop (length s₁ - mark) (drop mark s₁))
-      → AddedAll (take (length s₁ - mark) (drop mark s₁)) p n (n + (to - from)) r → Joined s s₂ from to mark n r
-  joined-law {s₂} p {r} lp e a =
-      record {
-        below = below_then (subst (λ (v : Bytes). Below s v mark) (sym w) (below-sets s mark (mark + n) (slice from (from + (to - from)) s) (omega arith))) (back_below s₁ mark low p lp e);
-        grows = λ ms ts f g.
-            let k = a ms ts (part-types s₁ mark 0 n (omega arith) refl (copied-running from to w f)) (part-types s₁ mark n (n + (to - from)) refl (omega arith) (copied-new n w (join-room j) g)) in
-            grows ts ms k.front (back-types s₁ mark low p lp e mark (mark + length (lines_of (inserts ts ms))) (omega arith) refl k.front) k.answer;
-      }
-    where
-      low : mark ≤ length s₁
-      low = omega (arith, j.room, l)
+    pub join-adding : Adding (take (length s₁ - mark) (drop mark s₁)) n (n + k)
+    join-adding =
+        record {
+          members = j.members;
+          types = j.types;
+          front = part-types s₁ mark 0 n (omega arith) refl (copied-running a.from k w j.running);
+          new = part-types s₁ mark n (n + k) refl (omega arith) (copied-new a n k e w join-fits j.new);
+        }
+
+    pub joined-law : {s₂ : Bytes} (p : Bytes) {r : StdOption ℕ} → length p ≡ length (take (length s₁ - mark) (drop mark s₁)) → s₂ ≡ take mark s₁ ++ (p ++ drop (length s₁ - mark) (drop mark s₁))
+        → AddedAll (take (length s₁ - mark) (drop mark s₁)) p n (n + k) r → Joined s s₂ a mark n r
+    joined-law {s₂} p {r} lp d x =
+        record {
+          below = below_then (subst (λ (v : Bytes). Below s v mark) (sym w) (below-sets s mark (mark + n) (slice a.from (a.from + k) s) (omega arith))) (back_below s₁ mark low p lp d);
+          grows = λ ms ts f g.
+              let z = x ms ts (part-types s₁ mark 0 n (omega arith) refl (copied-running a.from k w f)) (part-types s₁ mark n (n + k) refl (omega arith) (copied-new a n k e w join-fits g)) in
+              grows ts ms z.front (back-types s₁ mark low p lp d mark (mark + length (lines_of (inserts ts ms))) (omega arith) refl z.front) z.answer;
+        }
+      where
+        low : mark ≤ length s₁
+        low = omega (arith, j.room, l)
 
 -- ## The variants and the outer type join
 
-pub grows-len : {s : Bytes} {mark : ℕ} {r : Grown} {k : ℕ} (o : Option (List Ty)) → Grows s mark o r → r ≡ Len k → (ms : List Ty) × (o ≡ some ms) × RunningAt s mark k ms
+pub grows-len : {s : Bytes} {mark : ℕ} {r : StdOption ℕ} {k : ℕ} (o : Option (List Ty)) → Grows s mark o r → r ≡ Some k → (ms : List Ty) × (o ≡ some ms) × RunningAt s mark k ms
 grows-len {s} {mark} {r} {k} o g e = go o (subst (Grows s mark o) e g)
   where
-    go : (q : Option (List Ty)) → Grows s mark q (Len k) → (ms : List Ty) × (q ≡ some ms) × RunningAt s mark k ms
+    go : (q : Option (List Ty)) → Grows s mark q (Some k) → (ms : List Ty) × (q ≡ some ms) × RunningAt s mark k ms
     go none h = absurd h
     go (some ms) h = (ms, refl, h)
 
-pub grows-over : (s : Bytes) (mark : ℕ) {r : Grown} (o : Option (List Ty)) → Grows s mark o r → r ≡ TooLarge → o ≡ none
+pub grows-over : (s : Bytes) (mark : ℕ) {r : StdOption ℕ} (o : Option (List Ty)) → Grows s mark o r → r ≡ None → o ≡ none
 grows-over s mark {r} o g e = go o (subst (Grows s mark o) e g)
   where
-    go : (q : Option (List Ty)) → Grows s mark q TooLarge → q ≡ none
+    go : (q : Option (List Ty)) → Grows s mark q None → q ≡ none
     go none h = refl
     go (some ms) h = absurd h
 
-few_on : {s s' : Bytes} {from to mark : ℕ} {ts : List Ty} → Below s s' mark → FewAt s from to mark ts → FewAt s' from to mark ts
+pub few_on : {s s' : Bytes} {a : Span} {mark : ℕ} {ts : List Ty} → Below s s' mark → FewAt s a mark ts → FewAt s' a mark ts
 few_on b f = record { at = below-types b f.below f.at; below = f.below; few = f.few }
 
-module _ {s s₁ : Bytes} {o oe i ie mark n : ℕ} {r : Grown} (j : Joined s s₁ i ie mark n r) where
-  pub widen-again : Widening s o oe i ie mark n → (k : ℕ) → r ≡ Len k → Joining s₁ o oe mark k
-  widen-again q k e = go (grows-len (add q.variants.types q.variants.members) (j.grows q.variants.members q.variants.types q.variants.running q.variants.new) e)
+module _ {s s₁ : Bytes} {variants outer : Span} {mark n : ℕ} {r : StdOption ℕ} (j : Joined s s₁ variants mark n r) where
+  pub widen-again : Widening s variants outer mark n → (k : ℕ) → r ≡ Some k → Joining s₁ outer mark k
+  widen-again q k e = go (grows-len (add q.first.types q.first.members) (j.grows q.first.members q.first.types q.first.running q.first.new) e)
     where
-      go : (l : List Ty) × (add q.variants.types q.variants.members ≡ some l) × RunningAt s₁ mark k l → Joining s₁ o oe mark k
-      go (l, d, h) = record { members = l; types = q.outer ∷ []; running = h; new = few_on j.below q.new; room = omega (arith, q.variants.room, j.below.long) }
+      go : (l : List Ty) × (add q.first.types q.first.members ≡ some l) × RunningAt s₁ mark k l → Joining s₁ outer mark k
+      go (l, d, h) = record { members = l; types = q.type ∷ []; running = h; new = few_on j.below q.new; room = omega (arith, q.first.room, j.below.long) }
 
-  pub widened-both : {s₂ : Bytes} {r₂ : Grown} (k : ℕ) → r ≡ Len k → Joined s₁ s₂ o oe mark k r₂ → Widened s s₂ o oe i ie mark n r₂
+  pub widened-both : {s₂ : Bytes} {r₂ : StdOption ℕ} (k : ℕ) → r ≡ Some k → Joined s₁ s₂ outer mark k r₂ → Widened s s₂ variants outer mark n r₂
   unfolding widen
   widened-both {s₂} {r₂} k e h = record { below = below_then j.below h.below; grows = λ ms all t f g y. go ms all t y (grows-len (add all ms) (j.grows ms all f g) e) }
     where
-      go : (ms all : List Ty) (t : Ty) → FewAt s o oe mark (t ∷ []) → (l : List Ty) × (add all ms ≡ some l) × RunningAt s₁ mark k l → Grows s₂ mark (widen all t ms) r₂
+      go : (ms all : List Ty) (t : Ty) → FewAt s outer mark (t ∷ []) → (l : List Ty) × (add all ms ≡ some l) × RunningAt s₁ mark k l → Grows s₂ mark (widen all t ms) r₂
       go ms all t y (l, d, x) = subst (λ q. Grows s₂ mark (given q none (add (t ∷ []))) r₂) (sym d) (h.grows l (t ∷ []) x (few_on j.below y))
 
-  pub widened-over : r ≡ TooLarge → Widened s s₁ o oe i ie mark n TooLarge
+  pub widened-over : r ≡ None → Widened s s₁ variants outer mark n None
   unfolding widen
   widened-over e = record { below = j.below; grows = λ ms all t f g y. go ms all t (grows-over s₁ mark (add all ms) (j.grows ms all f g) e) }
     where
-      go : (ms all : List Ty) (t : Ty) → add all ms ≡ none → Grows s₁ mark (widen all t ms) TooLarge
-      go ms all t d = subst (λ q. Grows s₁ mark (given q none (add (t ∷ []))) TooLarge) (sym d) tt
+      go : (ms all : List Ty) (t : Ty) → add all ms ≡ none → Grows s₁ mark (widen all t ms) None
+      go ms all t d = subst (λ q. Grows s₁ mark (given q none (add (t ∷ []))) None) (sym d) tt

@@ -1,5 +1,6 @@
--- The running union at the level of types: its members stay plain and in order, it fits, which arms make one, and what its frames come to. Assumes nothing.
-use mathlib.Core.Path.{◌≡◌, refl, sym, ◌∙◌, ap, subst}
+-- The running union at the level of types: its members stay plain and in order, it fits, and there is room for its pairs. Assumes nothing.
+use Rattle.std.specs.Prelude.{Option as StdOption}
+use mathlib.Core.Path.{◌≡◌, refl, sym, ◌∙◌, subst}
 use mathlib.Core.List.{List, [], ◌∷◌, map, Memᴰ}
 use mathlib.Core.Option.{Option, none, some}
 use mathlib.Core.Bool.{Bool, true, false, false≢true}
@@ -9,26 +10,20 @@ use lib.Dec.{ltb}
 use borrow.Author.Tests.{eq-eqb, ne_eqb, ltb-true, ltb-false}
 use Rattle.semantics.specs.Bytes.{Bytes}
 use Rattle.semantics.specs.Ty.{t_null, Ty, base, t_list, t_map, t_node, t_relationship, t_union, Tys, members, letter, among, matches, line, nesting, insert, inserts, opened, joined, ascending, is_union}
-use Rattle.semantics.specs.Unify.{Meeting, meeting}
 use Rattle.semantics.proofs.All.{All, empty, also, all-weaken}
-use Rattle.semantics.proofs.Meetings.{Met, two_numbers, two_lists, two_maps, two_nodes, two_relationships, two_unions, union_left, union_right, no_rule, met}
 use Rattle.semantics.proofs.Order.{TriTy, lt, eq, gt, tri_ty, insert-lt, insert-eq, insert-gt}
 use Rattle.semantics.proofs.Regular.{Member, ascends-true, ascends-sound, regular-true, regular-sound, inserts-sorted}
 use Rattle.ty.specs.Read.{kind_of}
-use Rattle.ty.specs.Union.{TypesAt, overlong, grown}
-use Rattle.ty.specs.declared.Grown.{Grown}
+use Rattle.ty.specs.Made.{made}
+use Rattle.ty.specs.Union.{TypesAt, overlong}
 use Rattle.ty.proofs.UnionLaws.{size-long}
-use Rattle.unify_run.specs.Run.{large, drops, given, long, fitting, add, widen, run_variants, met_by, run_members, run_pair, run_arms}
+use Rattle.unify_run.specs.Run.{drops, given, long, fitting, add, widen}
 use Rattle.unify_run.proofs.Size.{small-sound, small-true, members-inside, nests}
 use Rattle.unify_run.proofs.UnionsMeet.{union-members}
 use Rattle.unify_run.proofs.Theorem.{Part, part-members}
 use Rattle.unify_run.proofs.Answers.{Fine}
-use Rattle.unify.specs.Codes.{unions_arm, union_left_arm, union_right_arm}
 use Rattle.unify.specs.Work.{slots}
-use Rattle.unify.specs.Arms.{pair_arm, arm_of}
-use Rattle.unify.specs.Frames.{judged, union_pair, union_skip, union_done, left, Plain}
-use Rattle.unify.specs.Variants.{Grows}
-use Rattle.unify.proofs.ArmLaws.{pair-arms}
+use Rattle.unify.specs.Variants.{Plain, Members, Grows}
 
 -- ## Members
 
@@ -45,11 +40,6 @@ all-inserts : {P : Ty → Type 0} {xs : List Ty} → All P xs → {ms : List Ty}
 unfolding inserts
 all-inserts empty b = b
 all-inserts (also {x} p a) b = all-inserts a (all_insert x p b)
-
--- plain, in order
-pub record Members (ms : List Ty) : Type 0 where
-  pub plain : All Plain ms
-  pub ascend : ascending (map line ms) ≡ true
 
 pub no-members : Members []
 unfolding ascending
@@ -113,11 +103,11 @@ all_of (also p a) (Memᴰ.tail m) = all_of a m
 
 -- ## The bytes of the running union
 
-pub grows : {s front : Bytes} {mark n : ℕ} {r : Grown} (xs ms : List Ty) → TypesAt front 0 n (inserts xs ms) → TypesAt s mark (mark + n) (inserts xs ms) → r ≡ grown (overlong (inserts xs ms)) n → Grows s mark (add xs ms) r
+pub grows : {s front : Bytes} {mark n : ℕ} {r : StdOption ℕ} (xs ms : List Ty) → TypesAt front 0 n (inserts xs ms) → TypesAt s mark (mark + n) (inserts xs ms) → r ≡ made (overlong (inserts xs ms)) n → Grows s mark (add xs ms) r
 unfolding add fitting long overlong
 grows {s} {front} {mark} {n} {r} xs ms f t e = subst (Grows s mark (add xs ms)) (sym e) (go (overlong (inserts xs ms)) refl)
   where
-    go : (c : Bool) → overlong (inserts xs ms) ≡ c → Grows s mark (drops c (inserts xs ms)) (grown c n)
+    go : (c : Bool) → overlong (inserts xs ms) ≡ c → Grows s mark (drops c (inserts xs ms)) (made c n)
     go true p = tt
     go false p = record { at = t; fit = fit (ltb 1024 n) refl }
       where
@@ -125,7 +115,7 @@ grows {s} {front} {mark} {n} {r} xs ms f t e = subst (Grows s mark (add xs ms)) 
         fit true q = absurd (false≢true (sym p ∙ size-long f (ltb-true 1024 n q)))
         fit false q = ltb-false 1024 n q
 
--- ## What frames come to
+-- ## Null
 
 pub null-kind : (t : Ty) → kind_of t ≡ 66 → matches t (t_null ∷ []) ≡ true
 unfolding kind_of matches among letter
@@ -144,41 +134,6 @@ other-kind (t_map fs) h = refl
 other-kind (t_node ls) h = refl
 other-kind (t_relationship n) h = refl
 other-kind (t_union ts) h = refl
-
-pub comes-done : (all ms : List Ty) → left judged (union_done ms) ≡ run_members judged all [] ms
-unfolding left run_members
-comes-done all ms = refl
-
-pub comes-skip : (o : Ty) (os all ms : List Ty) → matches o (t_null ∷ []) ≡ true → left judged (union_skip o os all ms) ≡ run_members judged all (o ∷ os) ms
-unfolding left run_members met_by run_variants
-comes-skip o os all ms h = ap (λ (b : Bool). given (run_variants judged all o (elim b [ true ↦ [] | false ↦ all ]) false ms) large (λ l. run_members judged all os l)) (sym h)
-
-pub comes-pair : (v o : Ty) (vs os ms : List Ty) → matches o (t_null ∷ []) ≡ false → left judged (union_pair v o vs os (v ∷ vs) ms false) ≡ run_members judged (v ∷ vs) (o ∷ os) ms
-unfolding left run_members met_by run_variants
-comes-pair v o vs os ms h = ap (λ (b : Bool). given (run_variants judged (v ∷ vs) o (elim b [ true ↦ [] | false ↦ v ∷ vs ]) false ms) large (λ l. run_members judged (v ∷ vs) os l)) (sym h)
-
--- ## Which arms make a union
-
-pub data UnionArm (t u : Ty) (m : Meeting) (arm : ℕ) : Type 0 where
-  both : (ts us : Tys) → t ≡ t_union ts → u ≡ t_union us → arm ≡ unions_arm → run_pair judged m ≡ run_members judged (members us) (members ts) [] → UnionArm t u m arm
-  first : (ts : Tys) → t ≡ t_union ts → is_union u ≡ false → arm ≡ union_left_arm → run_pair judged m ≡ run_members judged (members ts) (u ∷ []) [] → UnionArm t u m arm
-  second : (us : Tys) → is_union t ≡ false → u ≡ t_union us → arm ≡ union_right_arm → run_pair judged m ≡ run_members judged (members us) (t ∷ []) [] → UnionArm t u m arm
-
-pair-arm : {t u : Ty} {m : Meeting} → Met t u m → (arm : ℕ) → arm ≡ pair_arm m → unions_arm ≤ arm → arm ≤ union_right_arm → UnionArm t u m arm
-unfolding pair_arm run_pair
-pair-arm (two_numbers b c x y) arm e l h = absurd (omega arith)
-pair-arm (two_lists t u) arm e l h = absurd (omega arith)
-pair-arm (two_maps fs gs) arm e l h = absurd (omega arith)
-pair-arm (two_nodes ls ks) arm e l h = absurd (omega arith)
-pair-arm (two_relationships m n) arm e l h = absurd (omega arith)
-pair-arm (two_unions ts us) arm e l h = both ts us refl refl e refl
-pair-arm (union_left ts u x) arm e l h = first ts refl x e refl
-pair-arm (union_right t us x) arm e l h = second us x refl e refl
-pair-arm (no_rule a b x) arm e l h = absurd (omega arith)
-
--- the arms before the pairs make none
-pub union-arm : (t u : Ty) (arm : ℕ) → arm ≡ arm_of t u → unions_arm ≤ arm → arm ≤ union_right_arm → (run_arms judged t u ≡ run_pair judged (meeting t u)) × UnionArm t u (meeting t u) arm
-union-arm t u arm e l h = let (q, p) = pair-arms judged t u (omega arith) in (q, pair-arm (met t u) arm (e ∙ p) l h)
 
 -- ## Room for the pairs
 

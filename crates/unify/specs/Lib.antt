@@ -1,11 +1,11 @@
 pub mod Codes
 pub mod Work
 pub mod Arms
-pub mod Frames
 pub mod Made
-pub mod Steps
 pub mod Predicates
 pub mod Letters
 pub mod Flat
-pub mod Variants
+pub mod Lists
+pub mod Entries
 pub mod Merges
+pub mod Variants

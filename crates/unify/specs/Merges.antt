@@ -1,15 +1,17 @@
--- Two maps that are merged: the entries that are left of both, and what is kept at the mark of those before. What the contracts of maps.rt cite.
-use Rattle.std.specs.Prelude.{ℕ, ◌+◌, ◌<◌, ◌≤◌, ◌≡◌, length, drop}
+-- Two maps that are merged: the entries that are left of both, and what is kept at the mark of those before. What the contracts of maps.rt cite,
+-- and of `unify_maps`.
+use Rattle.std.specs.Prelude.{ℕ, ◌+◌, ◌*◌, ◌<◌, ◌≤◌, ◌≡◌, length, drop, Some, None}
+use Rattle.std.specs.Prelude.{Option as StdOption}
 use Rattle.std.proofs.Math.Option.{Option}
 use Rattle.semantics.specs.Limits.{type_limit}
 use Rattle.semantics.specs.Bytes.{Bytes}
-use Rattle.semantics.specs.Ty.{Ty, Fields, ∅ᶠ, field, name_to, line_to, line}
+use Rattle.semantics.specs.Ty.{Ty, t_map, Fields, ∅ᶠ, field, name_to, line_to, line}
 use Rattle.ty.specs.declared.merging.Merge.{Merge}
-use Rattle.unify_run.specs.Run.{Run, run_maps}
-use Rattle.unify.specs.Codes.{nothing_left}
-use Rattle.unify.specs.Work.{Below}
-use Rattle.unify.specs.Frames.{judged, Value, Room, EntriesAt, KeptAt, Comes}
-use Rattle.unify.specs.declared.Frame.{Frame}
+use Rattle.unify_run.specs.Run.{Run, on_done, kept, keep, close_map, run_maps}
+use Rattle.unify.specs.Work.{Unified, Operand, slots, Room, judged, Answered, Below}
+use Rattle.unify.specs.Entries.{Value, EntriesAt, KeptAt, KeptNameAt, value_at}
+use Rattle.unify.specs.declared.Span.{Span}
+use Rattle.unify.specs.declared.maps.Values.{Values}
 
 -- an entry stands at p: a name and its type
 pub record SomeEntry (s : Bytes) (p : ℕ) : Type 0 where
@@ -57,9 +59,48 @@ pub record Lone (s s' : Bytes) (m : Merge) (mark : ℕ) (r : Merge) : Type 0 whe
   pub past : m.p ≤ r.p
   pub met : (R : Run) → MergeFor s m mark R → MetFor s' r mark R
 
--- `next_entry`
-pub record Entered (s s' : Bytes) (f : Frame) (m : Merge) (mark : ℕ) (r : Frame) : Type 0 where
+-- the values of a common name stand there, and the map before them is kept with the name; what comes of them comes to the run R
+pub record PairFor (s : Bytes) (p mark : ℕ) (v : Values) (R : Run) : Type 0 where
+  pub name : Bytes
+  pub left : Ty
+  pub right : Ty
+  pub first : Fields
+  pub second : Fields
+  pub k : Option Fields
+  pub left_at : Operand s v.first mark left
+  pub right_at : Operand s v.second mark right
+  pub first_at : EntriesAt s v.first.to mark first
+  pub second_at : EntriesAt s v.second.to mark second
+  pub kept : KeptNameAt s mark v.kept name k
+  pub at : v.at ≡ value_at mark v.kept
+  pub comes : on_done (judged left right) (λ u. run_maps judged first second (keep name u k)) ≡ R
+  pub room : Room s mark left right
+  pub rooms : (x y : Ty) → Value x first → Value y second → Room s mark x y
+  pub past : p < v.first.to
+
+-- at the end of both maps: what is kept, closed, comes to the run R
+pub record EndFor (s : Bytes) (mark : ℕ) (n : StdOption ℕ) (R : Run) : Type 0 where
+  pub k : Option Fields
+  pub kept : KeptAt s mark n k
+  pub comes : close_map k ≡ R
+
+abbrev pub NextFor : Bytes → Merge → ℕ → StdOption Values → Run → Type 0
+NextFor s m mark None R = EndFor s mark m.n R
+NextFor s m mark (Some v) R = PairFor s m.p mark v R
+
+-- `next_values`
+pub record Entered (s s' : Bytes) (m : Merge) (mark : ℕ) (r : StdOption Values) : Type 0 where
   pub below : Below s s' mark
-  pub kind : r.kind ≡ f.kind
-  pub past : r.go < nothing_left → (m.p < r.ve) × (r.ve ≤ mark)
-  pub frame : (R : Run) → MetFor s m mark R → Comes s' mark r R
+  pub next : (R : Run) → MetFor s m mark R → NextFor s' m mark r R
+
+-- `unify_maps`
+pub record SomeMaps (s : Bytes) (a b : Span) (mark : ℕ) : Type 0 where
+  pub left : Fields
+  pub right : Fields
+  pub first : Operand s a mark (t_map left)
+  pub second : Operand s b mark (t_map right)
+  pub room : mark + type_limit * slots (t_map left) (t_map right) ≤ length s
+
+pub record MapsAnswer (s s' : Bytes) (a b : Span) (mark : ℕ) (r : Unified) : Type 0 where
+  pub below : Below s s' mark
+  pub answer : (fs gs : Fields) → Operand s a mark (t_map fs) → Operand s b mark (t_map gs) → Answered (run_maps judged fs gs (kept ∅ᶠ)) s' mark r

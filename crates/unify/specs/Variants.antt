@@ -1,27 +1,30 @@
--- The running union of a frame: types join it, and its outer types meet the variants one after the other. What the contracts of unions.rt cite.
-use Rattle.std.specs.Prelude.{ℕ, ◌+◌, ◌-◌, ◌*◌, ◌≤◌, ◌<◌, ◌≡◌, length}
-use mathlib.Core.List.{List, [], ◌∷◌, Memᴰ}
+-- The running union: types join it, and outer types meet the variants of a union one after the other. What the contracts of unions.rt cite, and of
+-- `meet_variants` and `unify_union_with`.
+use Rattle.std.specs.Prelude.{Option as StdOption, Some, None, Ok, Err}
+use Rattle.std.specs.Prelude.{ℕ, ◌+◌, ◌≤◌, ◌≡◌, true, false, length}
+use mathlib.Core.List.{List, [], ◌∷◌, map, Memᴰ}
 use Rattle.std.proofs.Math.Option.{Option, none, some}
 use Rattle.semantics.specs.Limits.{type_limit}
 use Rattle.semantics.specs.Bytes.{Bytes}
-use Rattle.semantics.specs.Ty.{Ty}
+use Rattle.semantics.specs.Ty.{Ty, line, ascending, regular, too_large, is_union}
+use Rattle.semantics.specs.All.{All}
 use Rattle.ty.specs.Union.{TypesAt}
-use Rattle.ty.specs.declared.Grown.{Grown}
-use Rattle.ty.specs.declared.Grown.TheVariants.{Len, TooLarge}
-use Rattle.unify_run.specs.Run.{large, given, add, widen, run_variants, run_members}
-use Rattle.unify.specs.Codes.{unions_arm, union_left_arm, union_right_arm, nothing_left, two_slots}
-use Rattle.unify.specs.Work.{Operand, Below}
-use Rattle.unify.specs.Frames.{judged, UnionAt, Comes}
-use Rattle.unify.specs.Steps.{measure}
-use Rattle.unify.specs.declared.Frame.{Frame}
-use Rattle.unify.specs.declared.unions.Pairing.{Pairing}
+use Rattle.unify_run.specs.Run.{add, widen, run_union_with, run_members}
+use Rattle.unify.specs.Codes.{two_slots}
+use Rattle.unify.specs.Work.{Unified, Room, judged, Answered, Below}
+use Rattle.unify.specs.declared.Span.{Span}
+use Rattle.unify.specs.declared.UnifyError.{UnifyError}
 
--- ## Who meets whom
+-- a type that may be a member: regular, not too large, no union
+pub record Plain (t : Ty) : Type 0 where
+  pub regular : regular t ≡ true
+  pub small : too_large t ≡ false
+  pub single : is_union t ≡ false
 
-pub record Sides (arm a ae b be : ℕ) (r : Pairing) : Type 0 where
-  pub both : arm ≡ unions_arm → r ≡ record { o = a + 2; oe = ae - 2; i = b + 2; ie = be - 2 }
-  pub first : arm ≡ union_left_arm → r ≡ record { o = b; oe = be; i = a + 2; ie = ae - 2 }
-  pub second : arm ≡ union_right_arm → r ≡ record { o = a; oe = ae; i = b + 2; ie = be - 2 }
+-- the members of a union: plain, in order
+pub record Members (ms : List Ty) : Type 0 where
+  pub plain : All Plain ms
+  pub ascend : ascending (map line ms) ≡ true
 
 -- ## Types join the running union
 
@@ -30,87 +33,80 @@ pub record RunningAt (s : Bytes) (mark n : ℕ) (ms : List Ty) : Type 0 where
   pub at : TypesAt s mark (mark + n) ms
   pub fit : n ≤ type_limit
 
--- types at [from, to) below the mark, few enough to be copied behind the members
-pub record FewAt (s : Bytes) (from to mark : ℕ) (ts : List Ty) : Type 0 where
-  pub at : TypesAt s from to ts
-  pub below : to ≤ mark
-  pub few : to ≤ from + type_limit
+-- types that stand below the mark, few enough to be copied behind the members
+pub record FewAt (s : Bytes) (a : Span) (mark : ℕ) (ts : List Ty) : Type 0 where
+  pub at : TypesAt s a.from a.to ts
+  pub below : a.to ≤ mark
+  pub few : a.to ≤ a.from + type_limit
 
 -- what is asked before types join
-pub record Joining (s : Bytes) (from to mark n : ℕ) : Type 0 where
+pub record Joining (s : Bytes) (a : Span) (mark n : ℕ) : Type 0 where
   pub members : List Ty
   pub types : List Ty
   pub running : RunningAt s mark n members
-  pub new : FewAt s from to mark types
+  pub new : FewAt s a mark types
   pub room : mark + two_slots ≤ length s
 
 -- these members, if they fit
-abbrev pub Grows : Bytes → ℕ → Option (List Ty) → Grown → Type 0
-Grows s mark none (Len k) = ⊥
-Grows s mark none TooLarge = Unit {0}
-Grows s mark (some ms) (Len k) = RunningAt s mark k ms
-Grows s mark (some ms) TooLarge = ⊥
+abbrev pub Grows : Bytes → ℕ → Option (List Ty) → StdOption ℕ → Type 0
+Grows s mark none (Some k) = ⊥
+Grows s mark none None = Unit {0}
+Grows s mark (some ms) (Some k) = RunningAt s mark k ms
+Grows s mark (some ms) None = ⊥
 
-pub record Joined (s s' : Bytes) (from to mark n : ℕ) (r : Grown) : Type 0 where
+pub record Joined (s s' : Bytes) (a : Span) (mark n : ℕ) (r : StdOption ℕ) : Type 0 where
   pub below : Below s s' mark
-  pub grows : (ms ts : List Ty) → RunningAt s mark n ms → FewAt s from to mark ts → Grows s' mark (add ts ms) r
+  pub grows : (ms ts : List Ty) → RunningAt s mark n ms → FewAt s a mark ts → Grows s' mark (add ts ms) r
 
 -- the variants and the outer type
-pub record Widening (s : Bytes) (o oe i ie mark n : ℕ) : Type 0 where
-  pub variants : Joining s i ie mark n
-  pub outer : Ty
-  pub new : FewAt s o oe mark (outer ∷ [])
+pub record Widening (s : Bytes) (variants outer : Span) (mark n : ℕ) : Type 0 where
+  pub first : Joining s variants mark n
+  pub type : Ty
+  pub new : FewAt s outer mark (type ∷ [])
 
-pub record Widened (s s' : Bytes) (o oe i ie mark n : ℕ) (r : Grown) : Type 0 where
+pub record Widened (s s' : Bytes) (variants outer : Span) (mark n : ℕ) (r : StdOption ℕ) : Type 0 where
   pub below : Below s s' mark
-  pub grows : (ms all : List Ty) (t : Ty) → RunningAt s mark n ms → FewAt s i ie mark all → FewAt s o oe mark (t ∷ []) → Grows s' mark (widen all t ms) r
+  pub grows : (ms all : List Ty) (t : Ty) → RunningAt s mark n ms → FewAt s variants mark all → FewAt s outer mark (t ∷ []) → Grows s' mark (widen all t ms) r
 
 -- ## Outer types and variants
 
-pub record SomeOuters (s : Bytes) (mark : ℕ) (f : Frame) : Type 0 where
-  pub outers : List Ty
-  pub all : List Ty
-  pub members : List Ty
-  pub union : UnionAt s mark f outers all members
-
--- the frame at its next outer type; it may have the first variant before it again
-pub record NextOuter (s : Bytes) (mark : ℕ) (f r : Frame) : Type 0 where
-  pub frame : (os all ms : List Ty) → UnionAt s mark f os all ms → Comes s mark r (run_members judged all os ms)
-  pub falls : r.go < nothing_left → measure mark r ≤ (f.pe - f.p) * two_slots + (f.ie - f.ve) + type_limit
+-- outer types os, and the variants `all` that each of them meets; the members so far are ms
+pub record UnionAt (s : Bytes) (outers variants : Span) (mark n : ℕ) (os all ms : List Ty) : Type 0 where
+  pub outers_at : TypesAt s outers.from outers.to os
+  pub outers_below : outers.to ≤ mark
+  pub variants_at : FewAt s variants mark all
+  pub running : RunningAt s mark n ms
+  pub outers_plain : All Plain os
+  pub all_plain : All Plain all
+  pub members : Members ms
+  pub rooms : (x y : Ty) → Memᴰ x all → Memᴰ y os → Room s mark x y
+  pub room_for_two : mark + two_slots ≤ length s
 
 -- an outer type is there
-pub record SomeOuter (s : Bytes) (mark : ℕ) (f : Frame) : Type 0 where
-  pub outer : Ty
-  pub outers : List Ty
+pub record SomeOuter (s : Bytes) (outer variants : Span) (mark n : ℕ) : Type 0 where
+  pub type : Ty
   pub all : List Ty
   pub members : List Ty
-  pub union : UnionAt s mark f (outer ∷ outers) all members
+  pub union : UnionAt s outer variants mark n (type ∷ []) all members
+
+-- these members, if they fit, and in order; else too large
+abbrev pub Joins : Bytes → ℕ → Option (List Ty) → Unified → Type 0
+Joins s mark none (Ok k) = ⊥
+Joins s mark none (Err e) = e ≡ UnifyError.TooLarge
+Joins s mark (some ms) (Ok k) = RunningAt s mark k ms × Members ms
+Joins s mark (some ms) (Err e) = ⊥
 
 -- it has met the variants
-pub record ClosedOuter (s s' : Bytes) (mark : ℕ) (f r : Frame) : Type 0 where
+pub record OuterJoined (s s' : Bytes) (outer variants : Span) (mark n : ℕ) (r : Unified) : Type 0 where
   pub below : Below s s' mark
-  pub frame : (o : Ty) (os all ms : List Ty) → UnionAt s mark f (o ∷ os) all ms
-      → Comes s' mark r (given (run_variants judged all o [] f.met ms) large (λ l. run_members judged all os l))
-  pub falls : r.go < nothing_left → measure mark r < measure mark f
+  pub joins : (o : Ty) (all ms : List Ty) → UnionAt s outer variants mark n (o ∷ []) all ms → Joins s' mark (run_union_with judged all o ms) r
 
--- an outer type, and the variants vs that it is still to meet
-pub record VariantsAt (s : Bytes) (mark : ℕ) (f : Frame) (o : Ty) (vs os all ms : List Ty) : Type 0 where
-  pub union : UnionAt s mark f (o ∷ os) all ms
-  pub second : Operand s f.w f.we mark o
-  pub outer : f.w ≡ f.p
-  pub variants : TypesAt s f.ve f.ie vs
-  pub among : (x : Ty) → Memᴰ x vs → Memᴰ x all
-
-pub record SomeVariants (s : Bytes) (mark : ℕ) (f : Frame) : Type 0 where
-  pub outer : Ty
-  pub variants : List Ty
-  pub outers : List Ty
+pub record SomeOuters (s : Bytes) (outers variants : Span) (mark : ℕ) : Type 0 where
+  pub types : List Ty
   pub all : List Ty
-  pub members : List Ty
-  pub stands : VariantsAt s mark f outer variants outers all members
+  pub union : UnionAt s outers variants mark 0 types all []
 
-pub record NextVariant (s s' : Bytes) (mark : ℕ) (f r : Frame) : Type 0 where
+-- all of them have met the variants
+pub record UnionAnswer (s s' : Bytes) (outers variants : Span) (mark : ℕ) (r : Unified) : Type 0 where
   pub below : Below s s' mark
-  pub frame : (o : Ty) (vs os all ms : List Ty) → VariantsAt s mark f o vs os all ms
-      → Comes s' mark r (given (run_variants judged all o vs f.met ms) large (λ l. run_members judged all os l))
-  pub falls : r.go < nothing_left → measure mark r < measure mark f
+  pub answer : (os all : List Ty) → UnionAt s outers variants mark 0 os all [] → Answered (run_members judged all os []) s' mark r

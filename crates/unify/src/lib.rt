@@ -3,57 +3,50 @@
 
 mod arms;
 mod flat;
-mod frames;
-mod lists;
-mod made;
 mod maps;
+mod parts;
 mod predicates;
 mod unions;
 
-pub use frames::unify;
+pub use parts::unify;
 
 // Where a type stands in the work area.
-#[derive(Drop)]
+#[derive(Clone, Copy, Debug, PartialEq, Eq)]
 pub struct Span {
     pub from: usize,
     pub to: usize,
 }
 
-// Where the answer ends; or the inner types that do not unify, still where they were (`TypeMismatch`); or too large.
-#[derive(Drop)]
-pub enum Unified {
-    Done(usize),
-    Mismatch { expected: Span, actual: Span },
-    TooLarge,
+impl Span {
+    ghost use Rattle.std.specs.Prelude.{◌≡◌, ◌+◌, ◌-◌, ◌≤◌};
+    ghost use Rattle.unify.specs.Work.{span};
+
+    // The element of a list: what stands behind `J,`.
+    fn element(self) -> Span
+        requires { self.from + 2 ≤ self.to }
+        ensures { result ≡ span (self.from + 2) self.to }
+    {
+        Span {
+            from: self.from + 2,
+            to: self.to,
+        }
+    }
+
+    // The members of a union: what stands between `O,` and `!,`.
+    fn members(self) -> Span
+        requires { self.from + 4 ≤ self.to }
+        ensures { result ≡ span (self.from + 2) (self.to - 2) }
+    {
+        Span {
+            from: self.from + 2,
+            to: self.to - 2,
+        }
+    }
 }
 
-// What is next in a frame: a pair of parts, or an outer type that meets no variant; or how it ends.
-pub const PAIR: u8 = 0;
-
-pub const OUTER_ALONE: u8 = 1;
-
-pub const NOTHING_LEFT: u8 = 2;
-
-pub const NOT_UNIFIED: u8 = 3;
-
-pub const LARGE: u8 = 4;
-
-// What is to be unified next, [v..ve) with [w..we), its answer from `at` on; and what is kept at the mark, n bytes: `J,`, the map so far
-// (0: over), or the running union. A map goes on at ve and we; a union with the outer types from p to pe and the variants from i to ie.
-// `kind` is the arm, `LISTS`, `MAPS` or `UNIONS`; `go` says what is next.
-#[derive(Clone, Copy)]
-pub struct Frame {
-    pub kind: u8,
-    pub go: u8,
-    pub v: usize,
-    pub ve: usize,
-    pub w: usize,
-    pub we: usize,
-    pub at: usize,
-    pub n: usize,
-    pub p: usize,
-    pub pe: usize,
-    pub i: usize,
-    pub ie: usize,
-    pub met: bool,
+// Why there is no answer: inner types that do not unify, still where they were (`TypeMismatch`); or it would be too large.
+#[derive(Clone, Copy, Debug, PartialEq, Eq)]
+pub enum UnifyError {
+    Mismatch { expected: Span, actual: Span },
+    TooLarge,
 }

@@ -1,15 +1,17 @@
-// Frames of maps: the entries of both in the order of their names, common names unified.
-ghost use Rattle.std.specs.Prelude.{◌≡◌};
-ghost use Rattle.unify.specs.Codes.{maps_arm, nothing_left};
+// The entries of two maps, in the order of their names.
 ghost use Rattle.unify.specs.Merges.{SomeEntry, EntryLong, SomeMerge, Lone, SomeMet, Entered};
-ghost use Rattle.unify.specs.Steps.{ArmReady, Started, SomePair, Stepped, SomeEnd, Finished};
-ghost use Rattle.unify.specs.declared.Unified.TheVariants.{Done};
 
-use crate::arms::MAPS;
-use crate::flat::tested;
-use crate::made::{apart, empty_frame, pair_next, stop};
-use crate::{Frame, LARGE, NOTHING_LEFT, Unified};
-use ty::{CLOSE, Grown, Merge};
+use crate::Span;
+use ty::{CLOSE, Merge, Side};
+
+// The values of a name that both maps have, and where their answer goes: behind what is kept with that name (None: over).
+#[derive(Clone, Copy)]
+pub struct Values {
+    pub first: Span,
+    pub second: Span,
+    pub kept: Option<usize>,
+    pub at: usize,
+}
 
 // How long the entry at `at` is: its name and its type.
 fn entry_len(s: &[u8], at: usize) -> usize
@@ -20,99 +22,44 @@ fn entry_len(s: &[u8], at: usize) -> usize
 }
 
 // Keeps the entries that one map has alone, up to a common name or the end of both.
-fn keep_lone(s: &mut [u8], start: Merge, to: usize) -> Merge
+pub fn keep_lone(s: &mut [u8], start: Merge, to: usize) -> Merge
     requires { SomeMerge s.old start to }
     ensures { Lone s.old s.new start to result }
 {
     let mut m = start;
-    let mut next = ty::next_name(s, m.p, m.q);
-    while next < 2 {
-        let k = entry_len(s, ty::taken(m, next));
-        m = ty::take(s, m, next, k, to);
-        next = ty::next_name(s, m.p, m.q);
+    while let Some(side) = ty::next_name(s, m.p, m.q) {
+        if side == Side::Both {
+            return m;
+        }
+        let k = entry_len(s, ty::taken(m, side));
+        m = ty::take(s, m, side, k, to);
     }
     m
 }
 
-// To the next common name, which is kept, and its two values; or to the end.
-fn next_entry(work: &mut [u8], f: Frame, m: Merge, mark: usize) -> Frame
-    requires { SomeMet work.old m mark × (f.kind ≡ maps_arm) }
-    ensures { Entered work.old work.new f m mark result }
+// Keeps the next common name, and finds its two values; None at the end of both.
+pub fn next_values(work: &mut [u8], m: Merge, mark: usize) -> Option<Values>
+    requires { SomeMet work.old m mark }
+    ensures { Entered work.old work.new m mark result }
 {
     let p = m.p;
-    let mut g = f;
-    g.n = m.n;
     if work[p] == CLOSE {
-        return stop(g, NOTHING_LEFT);
+        return None;
     }
-    let q = m.q;
     let k = ty::name_len(work, p);
-    let n = ty::keep(work, p, k, mark, m.n);
-    g.n = n;
+    let kept = ty::keep(work, p, k, mark, m.n);
     let v = p + k;
-    let w = q + k;
-    let ve = ty::type_end(work, v);
-    let we = ty::type_end(work, w);
-    pair_next(g, v, ve, w, we, mark + n)
-}
-
-// Two maps: their frame. The entries that both have are unified one after the other, the others are kept.
-pub fn unify_maps(
-    work: &mut [u8],
-    arm: u8,
-    a: usize,
-    ae: usize,
-    b: usize,
-    be: usize,
-    mark: usize,
-) -> Frame
-    requires { ArmReady work.old arm a ae b be mark × (arm ≡ maps_arm) }
-    ensures { Started work.old work.new arm a ae b be mark result }
-{
-    text::copy_in(work, a, mark, 2);
-    let m = Merge {
-        p: a + 2,
-        q: b + 2,
-        n: 2,
-    };
-    let l = keep_lone(work, m, mark);
-    next_entry(work, empty_frame(MAPS), l, mark)
-}
-
-// Behind the answer [f.at..end), which is kept if there is room.
-fn after_value(work: &mut [u8], f: Frame, end: usize, mark: usize) -> Frame
-    requires { SomePair work.old mark f (Done end) × (f.kind ≡ maps_arm) }
-    ensures { Stepped work.old work.new mark f (Done end) result }
-{
-    let n = ty::kept(f.n, end - f.at);
-    let m = Merge {
-        p: f.ve,
-        q: f.we,
-        n,
-    };
-    let l = keep_lone(work, m, mark);
-    next_entry(work, f, l, mark)
-}
-
-// Behind the answer of the pair.
-pub fn step_map(work: &mut [u8], f: Frame, u: Unified, mark: usize) -> Frame
-    requires { SomePair work.old mark f u × (f.kind ≡ maps_arm) }
-    ensures { Stepped work.old work.new mark f u result }
-{
-    match u {
-        Unified::Done(end) => after_value(work, f, end, mark),
-        Unified::Mismatch { expected, actual } => apart(f, expected, actual),
-        Unified::TooLarge => stop(f, LARGE),
-    }
-}
-
-// The map as the answer.
-pub fn finish_map(work: &mut [u8], f: Frame, mark: usize) -> Unified
-    requires { SomeEnd work.old mark f × (f.kind ≡ maps_arm) × (f.go ≡ nothing_left) }
-    ensures { Finished work.old work.new mark f result }
-{
-    match ty::close_line(work, mark, f.n) {
-        Grown::Len(k) => tested(work, mark, mark + k),
-        Grown::TooLarge => Unified::TooLarge,
-    }
+    let w = m.q + k;
+    Some(Values {
+        first: Span {
+            from: v,
+            to: ty::type_end(work, v),
+        },
+        second: Span {
+            from: w,
+            to: ty::type_end(work, w),
+        },
+        kept,
+        at: mark + kept.unwrap_or(0),
+    })
 }

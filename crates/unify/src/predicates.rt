@@ -21,11 +21,9 @@ pub fn is_unknown(kind: u8) -> bool
 }
 
 // Int, Float, Num.
+#[tactic(auto, unfolding(crate::specs::Predicates::numeric))]
 pub fn is_numeric(kind: u8) -> bool
     ensures { result ≡ numeric kind }
 {
-    match kind {
-        INT..=NUM => true,
-        _ => false,
-    }
+    matches!(kind, INT..=NUM)
 }

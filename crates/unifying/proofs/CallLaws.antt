@@ -2,7 +2,7 @@
 use Prim.Native.Nat.{ℕ, ◌+◌, ◌-◌, ◌*◌, ◌/◌, ◌≤◌, ◌<◌}
 use native.Mathlib.Nat.{div-lt_iff_lt-mul}
 use native.Mathlib.Omega.{arith}
-use mathlib.Core.Path.{◌≡◌, refl, sym, ap, ap₂, ◌∙◌}
+use mathlib.Core.Path.{◌≡◌, refl, sym, ap, ap₂, subst, ◌∙◌}
 use mathlib.Core.Option.{Option, none, some}
 use mathlib.Core.Bool.{Bool, true, false, cond, ◌||◌}
 use lib.Dec.{eqb, ltb}
@@ -22,27 +22,28 @@ use Rattle.ty.proofs.Sizes.{large-no}
 use Rattle.unify_run.specs.Run.{Run, done, mismatch, large, unless, verdict}
 use Rattle.unify_run.specs.Run.{answered as ran}
 use Rattle.unify_run.proofs.Answers.{Fine, FineRun, unify-fine}
-use Rattle.unify.specs.Work.{Operand, Ready, Answered, Unifies, slots}
-use Rattle.unify.specs.declared.Unified.{Unified}
-use Rattle.unifying.specs.declared.Call.{Call}
-use Rattle.unifying.specs.Call.{settled_by}
-use Rattle.unifying.specs.Told.{ShortRun, SomeAnswer, told_by, told_to, Tells, Settles}
+use Rattle.std.specs.Prelude.{Result, Ok, Err}
+use Rattle.unify.specs.Work.{Unified, span, Operand, Ready, Answered, Unifies, slots}
+use Rattle.semantics.specs.Refusals.{number_of}
+use Rattle.semantics.specs.declared.refusals.Refusal.{Refusal}
+use Rattle.semantics.specs.declared.refusals.Refusal.TheVariants.{WrongSize, OutputTooShort, NoTypeLine}
+use Rattle.semantics.specs.declared.refusals.Refused.{Refused as Why}
+use Rattle.unifying.specs.declared.NotUnified.{NotUnified}
+use Rattle.unifying.specs.declared.NotUnified.TheVariants.{Mismatch, Refused}
+use Rattle.unifying.specs.Call.{settled, settled_by}
+use Rattle.unifying.specs.Told.{refused_by, ShortRun, SomeAnswer, told_by, told_to, Tells, Delivers, Settles}
 
 -- ## Refusals
 
-abbrev Both : Settled → Bytes → Bytes → Bytes → ℕ → ℕ → Type 0
-Both U work out out' c n = Settles U work out out' (record { number = c; first = n; second = 0 })
+abbrev Both : Settled → Bytes → Bytes → Bytes → Refusal → ℕ → Type 0
+Both U work out out' why n = Settles U work out out' (Err (refused_by why n))
 
-settles-cleared : (U : Settled) (work out out' : Bytes) (c n : ℕ) → (c ≡ 0 → ⊥) → (c ≡ 9 → ⊥) → U ≡ cleared c n work out → Both U work out out' c n
-settles-cleared U work out out' c n n0 n9 e =
+settles-cleared : (U : Settled) (work out out' : Bytes) (why : Refusal) (n : ℕ) → U ≡ cleared (number_of why) n work out → Both U work out out' why n
+settles-cleared U work out out' why n e =
     record {
-      number = sym (ap (λ (x : Settled). x.number) e);
-      first = sym (ap (λ (x : Settled). x.first) e);
-      second = sym (ap (λ (x : Settled). x.second) e);
+      told = λ w o. ap (λ (x : Settled). settled_by x.number x.first x.second w o) (sym e);
       cleared = ap (λ (x : Settled). x.work) e;
-      done = λ z. absurd (n0 z);
-      parted = λ z. absurd (n9 z);
-      zeroed = λ _ _. ap (λ (x : Settled). x.out) e;
+      output = ap (λ (x : Settled). x.out) e;
     }
 
 -- the call by its two tests of lengths
@@ -57,7 +58,7 @@ call-chosen : (a b work out : Bytes) → unify_call a b work out ≡ chosen a b 
 unfolding unify_call chosen
 call-chosen a b work out = refl
 
-pub call-untouched : (a b work out : Bytes) → (length work ≡ work_size → ⊥) → settled_by 2 0 0 work out ≡ unify_call a b work out
+pub call-untouched : (a b work out : Bytes) → (length work ≡ work_size → ⊥) → settled (Err (refused_by WrongSize 0)) work out ≡ unify_call a b work out
 unfolding chosen
 call-untouched a b work out h =
     sym (call-chosen a b work out ∙ ap (λ (c : Bool). chosen a b work out c (ltb (length out) unify_output)) (ne_eqb (length work) work_size h))
@@ -66,10 +67,10 @@ module _ (a b work out : Bytes) (size : length work ≡ work_size) where
   by-room : (d : Bool) → ltb (length out) unify_output ≡ d → unify_call a b work out ≡ chosen a b work out true d
   by-room d e = call-chosen a b work out ∙ ap₂ (chosen a b work out) (eq-eqb (length work) work_size size) e
 
-  pub settles-short : (out' : Bytes) → length out < unify_output → Both (unify_call a b work out) work out out' 7 0
+  pub settles-short : (out' : Bytes) → length out < unify_output → Both (unify_call a b work out) work out out' OutputTooShort 0
   unfolding chosen
   settles-short out' h =
-      settles-cleared (unify_call a b work out) work out out' 7 0 (λ z. omega arith) (λ z. omega arith)
+      settles-cleared (unify_call a b work out) work out out' OutputTooShort 0
       (by-room true (lt-ltb (length out) unify_output h))
 
   module _ (room : unify_output ≤ length out) where
@@ -77,10 +78,10 @@ module _ (a b work out : Bytes) (size : length work ≡ work_size) where
     unfolding chosen
     call-types = by-room false (le-ltb (length out) unify_output room)
 
-    pub settles-first : (out' : Bytes) (h : Bool) → h ≡ is_found (type_line a) → h ≡ false → Both (unify_call a b work out) work out out' 8 1
+    pub settles-first : (out' : Bytes) (h : Bool) → h ≡ is_found (type_line a) → h ≡ false → Both (unify_call a b work out) work out out' NoTypeLine 1
     unfolding unify_types
     settles-first out' h e n =
-        settles-cleared (unify_call a b work out) work out out' 8 1 (λ z. omega arith) (λ z. omega arith) (call-types ∙ go (type_line a) h e n)
+        settles-cleared (unify_call a b work out) work out out' NoTypeLine 1 (call-types ∙ go (type_line a) h e n)
       where
         go : (o : Option Ty) (h : Bool) → h ≡ is_found o → h ≡ false → unify_types o (type_line b) work out ≡ cleared 8 1 work out
         go none h e n = refl
@@ -104,10 +105,10 @@ line_read s h e n = go (type_line s) refl h e n
     go (some t) eq h e n = let r = read-sound s t eq in record { ty = t; read = eq; is = r.0; regular = r.1; small = r.2 }
 
 pub settles-second : (a b work out : Bytes) → length work ≡ work_size → unify_output ≤ length out → Line a → (out' : Bytes) (h : Bool) → h ≡ is_found (type_line b) → h ≡ false
-    → Both (unify_call a b work out) work out out' 8 2
+    → Both (unify_call a b work out) work out out' NoTypeLine 2
 unfolding unify_types
 settles-second a b work out size room l out' h e n =
-    settles-cleared (unify_call a b work out) work out out' 8 2 (λ z. omega arith) (λ z. omega arith)
+    settles-cleared (unify_call a b work out) work out out' NoTypeLine 2
     (call-types a b work out size room ∙ ap (λ (o : Option Ty). unify_types o (type_line b) work out) l.read ∙ go (type_line b) h e n)
   where
     go : (o : Option Ty) (h : Bool) → h ≡ is_found o → h ≡ false → unify_types (some l.ty) o work out ≡ cleared 8 2 work out
@@ -158,12 +159,9 @@ types-run t u work out = go (any_large (unify t u).tests) (unify t u).answer
 
 settles-told : (R : Run) (work out out' : Bytes) → out' ≡ told_to R out → Settles (settled_of R work out) work out out' (told_by R)
 unfolding settled_of
-settles-told (done t) work out out' e =
-    record { number = refl; first = refl; second = refl; cleared = refl; done = λ _. e; parted = λ _. e; zeroed = λ n0 _. absurd (n0 refl) }
-settles-told (mismatch x y) work out out' e =
-    record { number = refl; first = refl; second = refl; cleared = refl; done = λ _. e; parted = λ _. e; zeroed = λ _ n9. absurd (n9 refl) }
-settles-told large work out out' e =
-    record { number = refl; first = refl; second = refl; cleared = refl; done = λ z. absurd (omega arith); parted = λ z. absurd (omega arith); zeroed = λ _ _. refl }
+settles-told (done t) work out out' e = record { told = λ w o. refl; cleared = refl; output = e }
+settles-told (mismatch x y) work out out' e = record { told = λ w o. refl; cleared = refl; output = e }
+settles-told large work out out' e = record { told = λ w o. refl; cleared = refl; output = refl }
 
 module _ (a b work : Bytes) (size : length work ≡ work_size) (l : Line a) (k : Line b) (s₁ s₂ : Bytes) (m mark : ℕ)
     (em : m ≡ 0 + length a) (e₁ : s₁ ≡ sets work 0 a) (ek : mark ≡ m + length b) (e₂ : s₂ ≡ sets s₁ m b) where
@@ -181,7 +179,7 @@ module _ (a b work : Bytes) (size : length work ≡ work_size) (l : Line a) (k :
   second_at : slice m mark s₂ ≡ b
   second_at = ap (slice m mark) e₂ ∙ ap (λ (j : ℕ). slice m j (sets s₁ m b)) ek ∙ slice-sets s₁ m b (omega (arith, long₁, (line-short l).0, (line-short k).0))
 
-  first-operand : Operand s₂ 0 m mark l.ty
+  first-operand : Operand s₂ (span 0 m) mark l.ty
   first-operand =
       record {
         at = record { ordered = omega arith; inside = omega (arith, long₂, (line-short l).0); is = first_at ∙ sym l.is };
@@ -190,7 +188,7 @@ module _ (a b work : Bytes) (size : length work ≡ work_size) (l : Line a) (k :
         small = l.small;
       }
 
-  second-operand : Operand s₂ m mark mark k.ty
+  second-operand : Operand s₂ (span m mark) mark k.ty
   second-operand =
       record {
         at = record { ordered = omega arith; inside = omega (arith, long₂, (line-short l).0, (line-short k).0); is = second_at ∙ sym k.is };
@@ -199,7 +197,7 @@ module _ (a b work : Bytes) (size : length work ≡ work_size) (l : Line a) (k :
         small = k.small;
       }
 
-  pub call-ready : Ready s₂ 0 m m mark mark
+  pub call-ready : Ready s₂ (span 0 m) (span m mark) mark
   call-ready =
       let p = line-short l in
       let q = line-short k in
@@ -219,7 +217,7 @@ module _ (a b work : Bytes) (size : length work ≡ work_size) (l : Line a) (k :
   unfolding the-run
   run_short = fine-short (verdict (unify l.ty k.ty)) (unify-fine l.ty k.ty (fine-line l) (fine-line k))
 
-  module _ (s' : Bytes) (u : Unified) (p : Unifies s₂ s' 0 m m mark mark u) (out : Bytes) (room : unify_output ≤ length out) where
+  module _ (s' : Bytes) (u : Unified) (p : Unifies s₂ s' (span 0 m) (span m mark) mark u) (out : Bytes) (room : unify_output ≤ length out) where
     the-answer : Answered the-run s' mark u
     unfolding the-run
     the-answer = p.answer l.ty k.ty first-operand second-operand
@@ -227,7 +225,7 @@ module _ (a b work : Bytes) (size : length work ≡ work_size) (l : Line a) (k :
     pub some-answer : SomeAnswer s' mark u out
     some-answer = record { run = the-run; answered = the-answer; short = run_short; room = room }
 
-    pub settles-unified : (out' : Bytes) (r : Call) → Tells s' mark u out out' r → Settles (unify_call a b work out) work out out' r
+    pub settles-unified : (out' : Bytes) (r : Result ℕ NotUnified) → Tells s' mark u out out' r → Settles (unify_call a b work out) work out out' r
     unfolding the-run
     settles-unified out' r tells =
         let e : unify_call a b work out ≡ settled_of the-run work out =
@@ -237,18 +235,22 @@ module _ (a b work : Bytes) (size : length work ≡ work_size) (l : Line a) (k :
 
 -- ## The whole call
 
-module _ (U : Settled) (work out out₁ work' : Bytes) (r : Call) (p : Settles U work out out₁ r) (long : length work' ≡ length work) where
-  whole : (out' : Bytes) → out' ≡ U.out → settled_by r.number r.first r.second (replicate (length work') 0) out' ≡ U
-  whole out' e =
-      let w : replicate (length work') 0 ≡ U.work = ap (λ (j : ℕ). replicate j 0) long ∙ sym p.cleared in
-      rw (p.number, p.first, p.second, w, e)
+module _ {U : Settled} {work out out₁ : Bytes} (work' : Bytes) {w : Bytes} {r : Result ℕ NotUnified} (p : Settles U work out out₁ r) (long : length work' ≡ length work) (e : w ≡ replicate (length work') 0) where
+  whole : (o : Bytes) → o ≡ U.out → settled r w o ≡ U
+  whole o eo =
+      let z : w ≡ U.work = e ∙ ap (λ (j : ℕ). replicate j 0) long ∙ sym p.cleared in
+      p.told w o ∙ ap₂ (λ (x y : Bytes). settled_by U.number U.first U.second x y) z eo
 
-  pub whole-done : r.number ≡ 0 → (w : Bytes) → w ≡ replicate (length work') 0 → settled_by r.number r.first r.second w out₁ ≡ U
-  whole-done n w e = rw e (whole out₁ (p.done n))
+  delivers : {q : Result ℕ NotUnified} → r ≡ q → Delivers q U out out₁
+  delivers k = subst (λ (x : Result ℕ NotUnified). Delivers x U out out₁) k p.output
 
-  pub whole-parted : r.number ≡ 9 → (w : Bytes) → w ≡ replicate (length work') 0 → settled_by r.number r.first r.second w out₁ ≡ U
-  whole-parted n w e = rw e (whole out₁ (p.parted n))
+  -- an answer is in the output
+  pub whole-done : {n : ℕ} → r ≡ Ok n → settled r w out₁ ≡ U
+  whole-done k = whole out₁ (delivers k)
 
-  pub whole-zeroed : (r.number ≡ 0 → ⊥) → (r.number ≡ 9 → ⊥) → length out₁ ≡ length out → (w o : Bytes) → w ≡ replicate (length work') 0 → o ≡ replicate (length out₁) 0
-      → settled_by r.number r.first r.second w o ≡ U
-  whole-zeroed n0 n9 lo w o e eo = rw e (whole o (eo ∙ ap (λ (j : ℕ). replicate j 0) lo ∙ sym (p.zeroed n0 n9)))
+  pub whole-parted : {x y : ℕ} → r ≡ Err (Mismatch x y) → settled r w out₁ ≡ U
+  whole-parted k = whole out₁ (delivers k)
+
+  -- or it is cleared
+  pub whole-refused : {why : Why} → r ≡ Err (Refused why) → length out₁ ≡ length out → (o : Bytes) → o ≡ replicate (length out₁) 0 → settled r w o ≡ U
+  whole-refused k lo o eo = whole o (eo ∙ ap (λ (j : ℕ). replicate j 0) lo ∙ sym (delivers k))

@@ -1,33 +1,18 @@
-use native.Mathlib.Omega.{arith}
-use borrow.Author.Rules.{rules}
-use mathlib.Core.Path.{refl, sym, ap, ◌∙◌}
-use mathlib.Core.List.{map}
-use mathlib.Core.Bool.{true, false}
+use Rattle.std.proofs.Common.{◌∙◌, sym, ap, map, [], ◌∷◌, rules, tests}
+use Rattle.std.proofs.lemmas.Iterator.{YieldsList-from_slice}
+use Rattle.std.proofs.lemmas.Iterator.Consumers.{YieldsList-from_copied}
+use Rattle.std.proofs.lemmas.Iterator.Search.{find_from_yields_List}
+use Rattle.std.proofs.lemmas.Iterator.Adapters.{option_map_id}
 use Rattle.semantics.specs.Builtins.{folded, lookup}
 use Rattle.text.specs.Text.{digit_of}
-use Rattle.builtins.specs.Rows.{row_of, builtin_of}
-use Rattle.builtins.proofs.Laws.{row_same, found, passed, unfound}
+use Rattle.builtins.specs.declared.Builtin.TheVariants.{Id, Size, Head, Tail, Last, Keys, Values}
+use Rattle.builtins.specs.Rows.{found_of}
+use Rattle.builtins.proofs.Laws.{of-name, found-first}
 use Rattle.builtins.proofs.lookup.Goals as goal
 
-pub loop-i-init : goal.loop-i-init
-unfolding lookup
-loop-i-init c = (omega arith, refl)
-
-pub returns-then-same_hex_fold : goal.returns-then-same_hex_fold
-returns-then-same_hex_fold c =
-    let l = c in
-    let r = c.row_at-row in
-    let s = folded (map digit_of l.args.hex.now) in
-    sym (ap row_of l.loop-i.invariant.1 ∙ found l.loop-i.i s c.loop-i-test.true (row_same (builtin_of l.loop-i.i) r.result s _ true r.ensures c.same_hex_fold.ensures c.if-same_hex_fold.true))
-
-pub loop-i-preserved : goal.loop-i-preserved
-loop-i-preserved c =
-    let l = c in
-    let r = c.row_at-row in
-    let s = folded (map digit_of l.args.hex.now) in
-    (search rules, l.loop-i.invariant.1 ∙ passed l.loop-i.i s c.loop-i-test.true (row_same (builtin_of l.loop-i.i) r.result s _ false r.ensures c.same_hex_fold.ensures c.if-same_hex_fold.false))
-
 pub returns : goal.returns
+unfolding lookup
 returns c =
-    let l = c in
-    sym (ap row_of l.loop-i.invariant.1 ∙ unfound l.loop-i.i (folded (map digit_of l.args.hex.now)) (omega arith))
+    let s = folded (map digit_of c.args.hex.now) in
+    let found = find_from_yields_List (of-name s) _ _ c.find.result c.find.ensures.ran (YieldsList-from_copied (YieldsList-from_slice (Id ∷ Size ∷ Head ∷ Tail ∷ Last ∷ Keys ∷ Values ∷ []) cc)) (λ x b q k. unfold of-name in search (rules, tests)) in
+    ap found_of (sym (option_map_id c.find.result) ∙ found) ∙ found-first s (Id ∷ Size ∷ Head ∷ Tail ∷ Last ∷ Keys ∷ Values ∷ [])

@@ -1,26 +1,33 @@
-use native.Mathlib.Omega.{arith}
+use Rattle.std.proofs.Common.{rules, arith}
+use Rattle.std.proofs.lemmas.Result.{err_from_is_err_and}
+use Rattle.catalogue.proofs.Exits.{absent, present, over, within}
 use Rattle.catalogue.proofs.StandLaws.{stands_here}
 use Rattle.catalogue.proofs.CallLaws.{old-full, old-more}
-use borrow.Author.Rules.{rules}
 use Rattle.catalogue.proofs.enter_old.Goals as goal
+
+pub read_u16-number-requires : goal.read_u16-number-requires
+read_u16-number-requires c = let h = (stands_here _ _ _ _ c.requires.stands).inside in omega arith
 
 pub overflow_add-at : goal.overflow_add-at
 overflow_add-at c = let h = (stands_here _ _ _ _ c.requires.stands).inside in search rules
 
-pub bytes32-uses-requires : goal.bytes32-uses-requires
-bytes32-uses-requires c = let h = (stands_here _ _ _ _ c.requires.stands).inside in omega arith
+pub read_u32-requires : goal.read_u32-requires
+read_u32-requires c = let h = (stands_here _ _ _ _ c.requires.stands).inside in omega arith
 
-pub returns-then-uses-ge-USES_LIMIT : goal.returns-then-uses-ge-USES_LIMIT
-returns-then-uses-ge-USES_LIMIT c = old-full _ _ _ _ c.bytes32-uses.ensures.0 c.if-uses-ge-USES_LIMIT.true c.refuse.ensures
-
-pub bytes16-number-requires : goal.bytes16-number-requires
-bytes16-number-requires c = let h = (stands_here _ _ _ _ c.requires.stands).inside in omega arith
+pub returns-in_err-uses : goal.returns-in_err-uses
+returns-in_err-uses c =
+    let p = err_from_is_err_and c.from_residual.result c.from_residual.ensures.1 in
+    let q = absent c.checked_add.result _ _ c.in_err-uses.ensures.value in
+    let o = over c.checked_add.result _ _ q.0 c.checked_add.ensures in
+    rw (p.1, p.2, q.1) (old-full _ _ _ c.read_u32.ensures (omega arith))
 
 pub overflow_add-at-2 : goal.overflow_add-at-2
 overflow_add-at-2 c = let h = (stands_here _ _ _ _ c.requires.stands).inside in search rules
 
-pub put32-requires : goal.put32-requires
-put32-requires c = let h = (stands_here _ _ _ _ c.requires.stands).inside in omega arith
+pub write_u32-requires : goal.write_u32-requires
+write_u32-requires c = let h = (stands_here _ _ _ _ c.requires.stands).inside in omega arith
 
 pub returns : goal.returns
-returns c = old-more _ _ _ _ _ c.bytes32-uses.ensures.0 c.bytes16-number.ensures.0 c.if-uses-ge-USES_LIMIT.false c.put32.ensures
+returns c =
+    let w = within c.checked_add.result _ _ _ (present c.checked_add.result _ _ c.in_ok-uses.ensures.value) c.checked_add.ensures in
+    rw w.1 (old-more _ _ _ _ _ c.read_u32.ensures c.read_u16-number.ensures (omega arith) (rw w.1 at c.write_u32.ensures))

@@ -1,8 +1,6 @@
-use native.Mathlib.Omega.{arith}
-use mathlib.Core.Path.{refl}
+use Rattle.std.proofs.Common.{rules, arith, refl}
 use Rattle.catalogue.proofs.StandLaws.{stands_here}
 use Rattle.catalogue.proofs.CallLaws.{looked}
-use borrow.Author.Rules.{rules}
 use Rattle.catalogue.proofs.line_at.Goals as goal
 
 pub overflow_add-result : goal.overflow_add-result
@@ -11,8 +9,8 @@ overflow_add-result c = let h = (stands_here _ _ _ _ c.requires.stands).inside i
 pub next_entry-requires : goal.next_entry-requires
 next_entry-requires c = let h = (stands_here _ _ _ _ c.requires.stands).inside in omega arith
 
-pub bytes32-requires : goal.bytes32-requires
-bytes32-requires c = let h = (stands_here _ _ _ _ c.requires.stands).inside in omega arith
+pub read_u32-requires : goal.read_u32-requires
+read_u32-requires c = let h = (stands_here _ _ _ _ c.requires.stands).inside in omega arith
 
 pub returns : goal.returns
-returns c = (looked _ _ _ _ c.bytes32.ensures.0 c.next_entry.ensures _ refl refl refl refl, refl)
+returns c = (looked _ _ _ _ c.read_u32.ensures c.next_entry.ensures _ refl refl refl, refl)

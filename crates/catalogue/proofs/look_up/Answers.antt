@@ -1,5 +1,5 @@
 use Rattle.catalogue.proofs.CallLaws.{looked-part}
 use Rattle.catalogue.proofs.look_up.Goals as goal
 
-pub returns : goal.returns
-returns c = looked-part c.args.store.now c.find_line-l.result _ c.find_line-l.ensures.looks.is
+pub returns-clause-looked : goal.returns-clause-looked
+returns-clause-looked c = looked-part c.args.store.now c.in_ok-line.line _ c.in_ok-line.ensures.looks.is

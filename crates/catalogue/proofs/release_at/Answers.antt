@@ -1,29 +1,25 @@
-use native.Mathlib.Omega.{arith}
+use Rattle.std.proofs.Common.{rules, arith}
 use Rattle.catalogue.proofs.StandLaws.{stands_here, stands-formed}
 use Rattle.catalogue.proofs.CallLaws.{last-use, use-less}
-use borrow.Author.Rules.{rules}
 use Rattle.catalogue.proofs.release_at.Goals as goal
 
 pub overflow_add-at : goal.overflow_add-at
 overflow_add-at c = let h = (stands_here _ _ _ _ c.requires.stands).inside in search rules
 
-pub bytes32-uses-requires : goal.bytes32-uses-requires
-bytes32-uses-requires c = let h = (stands_here _ _ _ _ c.requires.stands).inside in omega arith
+pub read_u32-left-requires : goal.read_u32-left-requires
+read_u32-left-requires c = let h = (stands_here _ _ _ _ c.requires.stands).inside in omega arith
 
-pub returns-then-uses-eq1 : goal.returns-then-uses-eq1
-returns-then-uses-eq1 c = last-use _ _ _ _ c.bytes32-uses.ensures.0 c.if-uses-eq1.true c.remove.ensures
+pub overflow_sub-left : goal.overflow_sub-left
+overflow_sub-left c = let p = c.requires.stands in let f = (stands-formed _ _ _ _ p).used in let k = (stands_here _ _ _ _ p).uses in let e = c.read_u32-left.ensures in omega arith
 
-pub overflow_add-at-2 : goal.overflow_add-at-2
-overflow_add-at-2 c = let h = (stands_here _ _ _ _ c.requires.stands).inside in search rules
+pub overflow_add-at-else-left-eq0 : goal.overflow_add-at-else-left-eq0
+overflow_add-at-else-left-eq0 c = let h = (stands_here _ _ _ _ c.requires.stands).inside in search rules
 
-pub overflow_sub-uses : goal.overflow_sub-uses
-overflow_sub-uses c = let p = c.requires.stands in let f = (stands-formed _ _ _ _ p).used in let k = (stands_here _ _ _ _ p).uses in let e = c.bytes32-uses.ensures.0 in omega arith
+pub write_u32-requires : goal.write_u32-requires
+write_u32-requires c = let h = (stands_here _ _ _ _ c.requires.stands).inside in omega arith
 
-pub put32-requires : goal.put32-requires
-put32-requires c = let h = (stands_here _ _ _ _ c.requires.stands).inside in omega arith
+pub returns-then-left-eq0 : goal.returns-then-left-eq0
+returns-then-left-eq0 c = last-use _ _ _ _ c.read_u32-left.ensures c.if-left-eq0.true c.remove.ensures
 
-pub overflow_sub-result : goal.overflow_sub-result
-overflow_sub-result c = let p = c.requires.stands in let f = (stands-formed _ _ _ _ p).used in let k = (stands_here _ _ _ _ p).uses in let e = c.bytes32-uses.ensures.0 in omega arith
-
-pub returns : goal.returns
-returns c = use-less _ _ _ _ c.bytes32-uses.ensures.0 c.if-uses-eq1.false c.put32.ensures
+pub returns-else-left-eq0 : goal.returns-else-left-eq0
+returns-else-left-eq0 c = use-less _ _ _ _ c.read_u32-left.ensures c.if-left-eq0.false c.write_u32.ensures

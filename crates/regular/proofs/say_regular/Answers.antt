@@ -4,7 +4,7 @@ use Rattle.regular.proofs.Fits.{call_fits}
 use Rattle.regular.proofs.say_regular.Goals as goal
 
 pub slice_bounds-write_all-end : goal.slice_bounds-write_all-end
-slice_bounds-write_all-end g c = omega (arith, call_fits _ _ _ _ _ _ _ c.regular_line-c.ensures)
+slice_bounds-write_all-end g c = omega (arith, call_fits _ _ _ _ _ _ c.in-Ok.ensures)
 
-pub slice_bounds-write_all-end-2 : goal.slice_bounds-write_all-end-2
-slice_bounds-write_all-end-2 g c = sym (length-take-le _ _ (omega (arith, call_fits _ _ _ _ _ _ _ c.regular_line-c.ensures)))
+pub slice_bounds-write_all-end-in-Ok : goal.slice_bounds-write_all-end-in-Ok
+slice_bounds-write_all-end-in-Ok g c = sym (length-take-le _ _ (omega (arith, call_fits _ _ _ _ _ _ c.in-Ok.ensures)))

@@ -1,12 +1,7 @@
-use Rattle.std.proofs.Common.{arith, rules, below_more}
-use Rattle.replay.proofs.Fills.{all_alike, one-unlike}
+use Rattle.std.proofs.Common.{◌≡◌, rules, tests}
+use Rattle.std.proofs.lemmas.Iterator.{cases_from_all, YieldsList-from_slice}
+use Rattle.replay.proofs.Fills.{all-decides}
 use Rattle.replay.proofs.all_are.Goals as goal
 
-pub returns-then-s-i : goal.returns-then-s-i
-returns-then-s-i c = one-unlike _ _ _ (search rules) c.if-s-i.true
-
-pub loop-i-preserved : goal.loop-i-preserved
-loop-i-preserved c = (search rules, below_more _ _ c.loop-i.invariant.1 c.if-s-i.false)
-
 pub returns : goal.returns
-returns c = all_alike _ _ (λ k l. c.loop-i.invariant.1 k (omega arith))
+returns c = all-decides c.args.s.now c.args.b c.all.result (cases_from_all _ _ c.all.result (λ x. x ≡ c.args.b) (λ x. x ≡ c.args.b → ⊥) c.all.ensures.ran (YieldsList-from_slice c.args.s.now cc) (λ x q k. search (rules, tests)) (λ x q k. search (rules, tests)))

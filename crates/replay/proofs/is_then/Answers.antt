@@ -1,15 +1,11 @@
-use Rattle.std.proofs.Common.{sym, ◌∙◌, arith, length-take-le}
-use Rattle.replay.proofs.Fills.{too_long, front-unlike, rest-decides}
+use Rattle.std.proofs.Common.{Some, None}
+use Rattle.std.proofs.lemmas.Slice.Eq.{strip_prefix_is}
+use Rattle.std.proofs.lemmas.Bool.Decides.{Decides-eqb}
+use Rattle.replay.proofs.Fills.{rest-decides, other_front}
 use Rattle.replay.proofs.is_then.Goals as goal
 
-pub returns-then-n-s : goal.returns-then-n-s
-returns-then-n-s c = too_long c.args.s.now c.args.t.now _ c.if-n-s.true
+pub returns-in-Some : goal.returns-in-Some
+returns-in-Some c = rest-decides c.args.s.now c.args.t.now c.in-Some.rest.now _ (strip_prefix_is Decides-eqb c.args.s.now c.args.t.now (Some c.in-Some.rest) c.in-Some.ensures.cases) c.all_are.ensures
 
-pub slice_bounds-same-end : goal.slice_bounds-same-end
-slice_bounds-same-end c = sym (length-take-le _ _ (omega arith))
-
-pub returns-then-not-same : goal.returns-then-not-same
-returns-then-not-same c = let a = c.args in front-unlike a.s.now a.t.now _ (sym c.same.ensures ∙ c.if-not-same.true)
-
-pub returns : goal.returns
-returns c = let a = c.args in rest-decides a.s.now a.t.now _ (sym c.same.ensures ∙ c.if-not-same.false) c.all_are.ensures
+pub returns-in-None : goal.returns-in-None
+returns-in-None c = other_front c.args.s.now c.args.t.now _ (strip_prefix_is Decides-eqb c.args.s.now c.args.t.now None c.in-None.ensures.cases)

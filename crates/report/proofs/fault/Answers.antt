@@ -1,32 +1,20 @@
-use native.Mathlib.Omega.{arith}
-use Prim.Native.Nat.{ℕ}
-use mathlib.Core.Path.{sym}
-use Rattle.semantics.specs.Bytes.{Bytes}
-use Rattle.semantics.specs.Ty.{Ty}
-use Rattle.semantics.specs.Calls.{type_name, fault_text}
-use Rattle.report.specs.Report.{Appends, Starts, IsCode, code_fault}
-use Rattle.report.proofs.ReportLaws.{◌▹◌, wrote, room, Body, fault-body, code_body}
+use Rattle.std.proofs.Common.{ap, length, arith, rules}
+use Rattle.writer.proofs.Laws.{wrote_both}
+use Rattle.report.specs.Report.{code_fault}
+use Rattle.report.proofs.ReportLaws.{wrote_line, adds-line, head-long, code-line, kind-short}
 use Rattle.report.proofs.fault.Goals as goal
 
-told : (c : ℕ) (u : Ty) → IsCode c → {n end : ℕ} {l m : Bytes} → Starts c room l n → Appends (type_name u) l m n end → Body (fault_text (code_fault c u)) m end
-told c u i s w = fault-body (code_fault c u) (code_body c u i) (s.appended ▹ w)
+pub write-requires : goal.write-requires
+write-requires c = omega (arith, ap length c.head.ensures, head-long c.args.code)
 
-pub slice_bounds-body-end : goal.slice_bounds-body-end
-slice_bounds-body-end c =
-    let st = c in
-    let k = st.requires.3 in
-    let b = told st.args.code k.ty st.requires.2 c.fault_code-n.ensures (wrote (type_name k.ty) (c.type_name-end.ensures k.ty k.is)) in
-    omega (arith, b.inside)
+pub write-requires-2 : goal.write-requires-2
+write-requires-2 c = omega (arith, ap length c.head.ensures, head-long c.args.code, kind-short c.requires.1 c.type_name.ensures, c.write.ensures.wrote.end)
 
-pub slice_bounds-fault_line-end : goal.slice_bounds-fault_line-end
-slice_bounds-fault_line-end c =
-    let st = c in
-    let k = st.requires.3 in
-    let b = told st.args.code k.ty st.requires.2 c.fault_code-n.ensures (wrote (type_name k.ty) (c.type_name-end.ensures k.ty k.is)) in
-    omega (arith, b.size)
+pub end_line-requires : goal.end_line-requires
+end_line-requires c =
+    omega (arith, ap length c.head.ensures, head-long c.args.code, kind-short c.requires.1 c.type_name.ensures, c.write.ensures.wrote.end, c.write-2.ensures.wrote.end)
 
 pub returns : goal.returns
 returns c u e =
-    let st = c in
-    let b = told st.args.code u st.requires.2 c.fault_code-n.ensures (wrote (type_name u) (c.type_name-end.ensures u e)) in
-    c.fault_line.ensures (code_fault st.args.code u) (sym b.is)
+    let all = wrote_both c.write.ensures.wrote (wrote_both c.write-2.ensures.wrote c.end_line.ensures.wrote) in
+    adds-line (code_fault c.args.code u) (code-line c.args.code u c.head.ensures (c.type_name.ensures u e)) (wrote_line all (search rules) (search rules) (search rules) (search rules)) (search rules)

@@ -1,13 +1,10 @@
-use borrow.Author.Rules.{rules}
-use mathlib.Core.Path.{◌∙◌, sym}
-use Rattle.text.proofs.Words.{hexes-on, hexes-off, hexes-end}
+use Rattle.std.proofs.Common.{◌∙◌, rules, tests}
+use Rattle.std.proofs.lemmas.Iterator.{YieldsList-from_slice}
+use Rattle.std.proofs.lemmas.Iterator.Search.{all_from_yields_List}
+use Rattle.text.specs.Text.{is_hex}
+use Rattle.text.proofs.Words.{hexes}
 use Rattle.text.proofs.all_hex.Goals as goal
 
-pub returns-then-not-is_hex : goal.returns-then-not-is_hex
-returns-then-not-is_hex c = let l = c in let a = l.args in sym (l.loop-i.invariant.1 ∙ hexes-off a.t.now l.loop-i.i (search rules) (sym c.is_hex.ensures ∙ c.if-not-is_hex.true))
-
-pub loop-i-preserved : goal.loop-i-preserved
-loop-i-preserved c = let l = c in let a = l.args in (search rules, l.loop-i.invariant.1 ∙ hexes-on a.t.now l.loop-i.i (search rules) (sym c.is_hex.ensures ∙ c.if-not-is_hex.false))
-
 pub returns : goal.returns
-returns c = let l = c in let a = l.args in sym (l.loop-i.invariant.1 ∙ hexes-end a.t.now l.loop-i.i (search rules))
+returns c =
+    all_from_yields_List is_hex _ _ _ c.all.ensures.ran (YieldsList-from_slice c.args.t.now cc) (λ x b q k. search (rules, tests)) ∙ hexes c.args.t.now

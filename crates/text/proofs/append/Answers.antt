@@ -1,11 +1,21 @@
-use Prim.Native.Nat.{ℕ}
-use mathlib.Core.List.{List}
-use mathlib.Core.Path.{ap₂}
-use lib.ListN.{set, get_or}
-use mathlib.Core.Path.{◌∙◌, sym}
-use Rattle.text.proofs.Laws.{sets_more}
-use borrow.Author.Rules.{rules}
+use Rattle.std.proofs.Common.{refl, ◌∙◌, sym, ap, arith, length, ◌+◌, ◌-◌}
+use Rattle.std.proofs.Math.Seq.{sets, length-take-le}
+use Rattle.text.proofs.Laws.{put_mid-sets, sets-inside, sets-out}
 use Rattle.text.proofs.append.Goals as goal
+use Rattle.text.proofs.append.Goals.{then-fill-out, else-fill-out}
 
-pub loop-i-preserved : goal.loop-i-preserved
-loop-i-preserved c = let l = c in let a = l.args in (search rules, search rules, c.put-at.ensures.1 ∙ ap₂ (λ (w : List ℕ) (k : ℕ). set w k (get_or a.t.now l.loop-i.i 0)) l.loop-i.invariant.2 l.loop-i.invariant.1 ∙ sym (sets_more a.out.now a.fill a.t.now l.loop-i.i (search rules)))
+pub returns : goal.returns
+returns c =
+    let a = c.args in (
+      refl,
+      elim c.if-fill-out.branch [
+        | then-fill-out w ↦
+            let fits = w.min-fits.result in
+            let part = w.copy_from_slice.ensures.after in
+            w.out-is
+            ∙ put_mid-sets a.out.now _ a.fill (a.fill + fits - a.fill) (omega (arith, w.min-fits.ensures)) (omega (arith, w.min-fits.ensures, ap length part, length-take-le fits a.t.now (omega (arith, w.min-fits.ensures))))
+            ∙ ap (sets a.out.now a.fill) part
+            ∙ sets-inside a.out.now a.t.now a.fill fits w.min-fits.ensures
+        | else-fill-out w ↦ w.out-is ∙ sym (sets-out a.out.now a.fill a.t.now w.if-fill-out.false)
+      ],
+    )

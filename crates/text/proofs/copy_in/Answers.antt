@@ -1,6 +1,6 @@
-use borrow.Author.Rules.{rules}
-use Rattle.text.proofs.Laws.{copy_more}
+use Rattle.std.proofs.Common.{◌∙◌, ◌+◌, arith}
+use Rattle.text.proofs.Laws.{within}
 use Rattle.text.proofs.copy_in.Goals as goal
 
-pub loop-i-preserved : goal.loop-i-preserved
-loop-i-preserved c = let l = c in let st = l in let a = st.args in (search rules, search rules, copy_more l.loop-i.s a.s.now a.from a.to l.loop-i.i a.len st.requires.2 st.requires.0 (search rules) l.loop-i.invariant.2)
+pub returns : goal.returns
+returns c = let a = c.args in c.copy_within.ensures.after ∙ within a.s.now a.from (a.from + a.len) a.to (omega arith) c.requires.0 (omega (arith, c.requires.1))

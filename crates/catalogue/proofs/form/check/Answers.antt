@@ -1,21 +1,32 @@
+use Rattle.std.proofs.Common.{sym, ◌∙◌}
+use Rattle.std.proofs.lemmas.Result.{err_from_is_err_and}
 use Rattle.catalogue.proofs.StoreLaws.{other_length, no-zeros, no_end, end_read, read-laid, good-store, twice_there}
-use mathlib.Core.Path.{sym, ◌∙◌}
 use Rattle.catalogue.proofs.form.check.Goals as goal
+use Rattle.catalogue.proofs.form.check.Goals.{then-s-ne-STORE_SIZE-via-then-s-ne-STORE_SIZE, then-s-ne-STORE_SIZE-via-else-s-ne-STORE_SIZE+then-not-all_zeros}
 
 pub returns-then-s-ne-STORE_SIZE : goal.returns-then-s-ne-STORE_SIZE
-returns-then-s-ne-STORE_SIZE c = other_length _ c.if-s-ne-STORE_SIZE.true
+returns-then-s-ne-STORE_SIZE c =
+    elim c.then-s-ne-STORE_SIZE.branch [
+      | then-s-ne-STORE_SIZE-via-then-s-ne-STORE_SIZE w ↦ other_length _ w.if-s-ne-STORE_SIZE.true
+      | then-s-ne-STORE_SIZE-via-else-s-ne-STORE_SIZE+then-not-all_zeros w ↦ no-zeros _ w.if-s-ne-STORE_SIZE.false (sym w.all_zeros.ensures ∙ w.if-not-all_zeros.true)
+    ]
 
-pub returns-then-not-all_zeros : goal.returns-then-not-all_zeros
-returns-then-not-all_zeros c = no-zeros _ c.if-s-ne-STORE_SIZE.false (sym c.all_zeros.ensures ∙ c.if-not-all_zeros.true)
+pub returns-in_err-end : goal.returns-in_err-end
+returns-in_err-end c =
+    let p = err_from_is_err_and c.from_residual.result c.from_residual.ensures.1 in
+    rw p.1 (no_end _ _ c.if-s-ne-STORE_SIZE.false (sym c.all_zeros.ensures ∙ c.if-not-all_zeros.false) c.read_u16-last.ensures (sym c.in_err-end.was ∙ c.find_end.ensures))
 
 pub distinct-requires : goal.distinct-requires
-distinct-requires c = let h = c.if-s-ne-STORE_SIZE.false in let zs = sym c.all_zeros.ensures ∙ c.if-not-all_zeros.false in let l = c.bytes16-last.ensures.0 in read-laid _ _ h zs l _ (end_read _ _ h zs l _ (sym c.in-End.is ∙ c.find_end.ensures))
+distinct-requires c =
+    let h = c.if-s-ne-STORE_SIZE.false in
+    let zs = sym c.all_zeros.ensures ∙ c.if-not-all_zeros.false in
+    let l = c.read_u16-last.ensures in
+    read-laid _ _ h zs l _ (end_read _ _ h zs l _ (sym c.in_ok-end.was ∙ c.find_end.ensures))
 
 pub returns-then-distinct : goal.returns-then-distinct
-returns-then-distinct c = good-store _ _ c.if-s-ne-STORE_SIZE.false (sym c.all_zeros.ensures ∙ c.if-not-all_zeros.false) c.bytes16-last.ensures.0 _ (sym c.in-End.is ∙ c.find_end.ensures) _ c.distinct.ensures c.if-distinct.true
-
-pub returns-in-Bad : goal.returns-in-Bad
-returns-in-Bad c = no_end _ _ c.if-s-ne-STORE_SIZE.false (sym c.all_zeros.ensures ∙ c.if-not-all_zeros.false) c.bytes16-last.ensures.0 (sym c.in-Bad.is ∙ c.find_end.ensures)
+returns-then-distinct c =
+    good-store _ _ c.if-s-ne-STORE_SIZE.false (sym c.all_zeros.ensures ∙ c.if-not-all_zeros.false) c.read_u16-last.ensures _ (sym c.in_ok-end.was ∙ c.find_end.ensures) _ c.distinct.ensures c.if-distinct.true
 
 pub returns-else-distinct : goal.returns-else-distinct
-returns-else-distinct c = twice_there _ _ c.if-s-ne-STORE_SIZE.false (sym c.all_zeros.ensures ∙ c.if-not-all_zeros.false) c.bytes16-last.ensures.0 _ (sym c.in-End.is ∙ c.find_end.ensures) _ c.distinct.ensures c.if-distinct.false
+returns-else-distinct c =
+    twice_there _ _ c.if-s-ne-STORE_SIZE.false (sym c.all_zeros.ensures ∙ c.if-not-all_zeros.false) c.read_u16-last.ensures _ (sym c.in_ok-end.was ∙ c.find_end.ensures) _ c.distinct.ensures c.if-distinct.false

@@ -1,13 +1,9 @@
-use borrow.Author.Rules.{rules}
-use mathlib.Core.Path.{sym, ◌∙◌}
-use Rattle.catalogue.proofs.NumberLaws.{zeros-on, zeros-off, zeros-end}
+use Rattle.std.proofs.Common.{rules, eqb, ◌∙◌}
+use borrow.Author.Tests.{tests}
+use Rattle.std.proofs.lemmas.Iterator.{YieldsList-from_slice}
+use Rattle.std.proofs.lemmas.Iterator.Search.{all_from_yields_List}
+use Rattle.catalogue.proofs.NumberLaws.{all-zeros}
 use Rattle.catalogue.proofs.number.all_zeros.Goals as goal
 
-pub returns-then-s-i-ne0 : goal.returns-then-s-i-ne0
-returns-then-s-i-ne0 c = sym (c.loop-i.invariant.1 ∙ zeros-off c.args.s.now c.loop-i.i (search rules) c.if-s-i-ne0.true)
-
-pub loop-i-preserved : goal.loop-i-preserved
-loop-i-preserved c = (search rules, c.loop-i.invariant.1 ∙ zeros-on c.args.s.now c.loop-i.i (search rules) c.if-s-i-ne0.false)
-
 pub returns : goal.returns
-returns c = sym (c.loop-i.invariant.1 ∙ zeros-end c.args.s.now c.loop-i.i (search rules))
+returns c = all_from_yields_List (λ b. eqb b 0) _ _ c.all.result c.all.ensures.ran (YieldsList-from_slice c.args.s.now cc) (λ x b q k. search (rules, tests)) ∙ all-zeros c.args.s.now

@@ -1,14 +1,6 @@
-use Rattle.catalogue.specs.Places.{Run}
-use Rattle.stores.specs.Catalogue.{Live}
-use mathlib.Core.List.{List}
-use lib.ListN.{length}
-use Prim.Native.Nat.{◌-◌}
-use mathlib.Core.Path.{◌≡◌}
-use Rattle.catalogue.proofs.SlotLaws.{Counting}
+use Rattle.std.proofs.Common.{◌≡◌, length}
+use Rattle.catalogue.proofs.SlotLaws.{Counts_on}
 use Rattle.catalogue.proofs.tally.count_all.Given as goal
 
-abbrev pub invariant-loop-at : goal.invariant-loop-at
-invariant-loop-at l = (length l.counts ≡ 32768) × ((ls : List Live) → Run l.s l.from ls l.end → Counting l.s l.at l.end l.counts ls)
-
-abbrev pub decreases-loop-at : goal.decreases-loop-at
-decreases-loop-at l = l.end - l.at
+abbrev pub invariant-loop-entry : goal.invariant-loop-entry
+invariant-loop-entry l = (length l.counts ≡ 32768) × Counts_on l.s l.from l.end l.entry-iterator l.counts

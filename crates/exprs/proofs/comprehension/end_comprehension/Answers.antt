@@ -1,4 +1,4 @@
-use Rattle.exprs.proofs.States.{last-inside, last_line, last-typed, last-large}
+use Rattle.exprs.proofs.States.{last-inside, last_line, last-ends}
 use lib.Seq.{length-take-le}
 use mathlib.Core.Path.{sym}
 use native.Mathlib.Omega.{arith}
@@ -13,8 +13,5 @@ slice_bounds-fits-end c = sym (length-take-le _ _ (last-inside c.requires))
 pub fits-requires : goal.fits-requires
 fits-requires c = last_line c.requires
 
-pub returns-then-fits : goal.returns-then-fits
-returns-then-fits c = λ t k. last-typed _ c.fits.ensures t k c.if-fits.true
-
 pub returns : goal.returns
-returns c = λ t k. last-large _ c.fits.ensures t k c.if-fits.false
+returns c = λ t k. rw c.then_some.ensures (last-ends _ c.fits.ensures t k)

@@ -1,8 +1,14 @@
-use Rattle.exprs.proofs.LeafLaws.{constant-map, constant-letter}
+use mathlib.Core.Path.{◌≡◌}
+use mathlib.Core.Bool.{false}
+use borrow.Author.Rules.{rules}
+use Rattle.line.specs.Words.{word_of}
+use Rattle.exprs.proofs.LeafLaws.{is_map, constant-map, constant-letter}
 use Rattle.exprs.proofs.leaf.constant.Goals as goal
 
-pub returns-then-word-eq-MPR : goal.returns-then-word-eq-MPR
-returns-then-word-eq-MPR c = constant-map _ c.requires c.if-word-eq-MPR.true c.put_pair.ensures
+pub returns-in-Mpr : goal.returns-in-Mpr
+returns-in-Mpr c = constant-map _ c.requires c.in-Mpr.is c.put_pair.ensures
 
-pub returns : goal.returns
-returns c = constant-letter _ c.requires c.letter_of.ensures c.if-word-eq-MPR.false c.put_letter.ensures
+pub returns-in_default : goal.returns-in_default
+returns-in_default c =
+    let m : is_map (word_of c.args.word) ≡ false = search rules in
+    constant-letter _ c.requires c.constant_letter.ensures m c.put_letter.ensures

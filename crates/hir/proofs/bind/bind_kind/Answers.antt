@@ -1,16 +1,6 @@
 use native.Mathlib.Omega.{arith}
-use borrow.Author.Rules.{rules}
-use Rattle.hir.proofs.BindLaws.{find-start, found-binding, found-letter, found-hit, found-lower, found-higher, found-on, found_none}
+use Rattle.hir.proofs.BindLaws.{found-binding, found-letter, found-hit, found-lower, found-higher, found-on, found_none}
 use Rattle.hir.proofs.bind.bind_kind.Goals as goal
-
-pub loop-lo-init : goal.loop-lo-init
-loop-lo-init c = find-start _ _ _ _ c.requires
-
-pub probe-mid-requires : goal.probe-mid-requires
-probe-mid-requires c = (c.loop-lo-test.true, search rules)
-
-pub line_start-start-requires : goal.line_start-start-requires
-line_start-start-requires c = (c.probe-mid.ensures.0, omega (arith, c.probe-mid.ensures.1, c.loop-lo.invariant.inside))
 
 pub bound_at-g-requires : goal.bound_at-g-requires
 bound_at-g-requires c = found-binding _ _ _ _ _ (c.loop-lo.invariant.each c.requires) _ _ c.line_start-start.ensures c.probe-mid.ensures.1
@@ -32,9 +22,6 @@ loop-lo-smaller-then-v-var-2 c = let o = found-on _ _ _ _ _ (c.loop-lo.invariant
 
 pub loop-lo-preserved-then-v-var-2 : goal.loop-lo-preserved-then-v-var-2
 loop-lo-preserved-then-v-var-2 c = record { inside = c.loop-lo.invariant.inside; each = λ b. found-lower _ _ _ _ _ (c.loop-lo.invariant.each b) _ _ c.line_start-start.ensures c.probe-mid.ensures.1 _ c.bound_at-g.ensures c.if-v-var-2.true }
-
-pub loop-lo-smaller : goal.loop-lo-smaller
-loop-lo-smaller c = omega (arith, c.line_start-start.ensures.upto, c.line_start-start.ensures.from, c.probe-mid.ensures.1)
 
 pub loop-lo-preserved : goal.loop-lo-preserved
 loop-lo-preserved c = record { inside = omega (arith, c.line_start-start.ensures.upto, c.probe-mid.ensures.1, c.loop-lo.invariant.inside); each = λ b. found-higher _ _ _ _ _ (c.loop-lo.invariant.each b) _ _ c.line_start-start.ensures c.probe-mid.ensures.1 _ c.bound_at-g.ensures (omega (arith, c.if-v-var-2.false, c.if-v-var.false)) }

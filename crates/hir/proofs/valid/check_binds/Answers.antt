@@ -1,28 +1,32 @@
-use mathlib.Core.Path.{sym, ◌∙◌}
-use Rattle.line.proofs.KnownLaws.{not-fine}
-use Rattle.hir.proofs.TopLaws.{binds-start, bound-room, bound-done, bound-wrong, bound-low, bound-less, bound-on}
+use Rattle.std.proofs.Common.{arith, refl}
+use Rattle.std.proofs.lemmas.Result.{err_from_is_err_and}
+use Rattle.semantics.specs.Sheet.{rank}
+use Rattle.hir.proofs.PlaceLaws.{not-at}
+use Rattle.hir.proofs.TopLaws.{binds-start, bound-done, bound-wrong, bound-low, bound-on}
 use Rattle.hir.proofs.valid.check_binds.Goals as goal
 
-pub loop-h-init : goal.loop-h-init
-loop-h-init c = binds-start _ _ _ c.requires
+pub loop-line-init : goal.loop-line-init
+loop-line-init c = binds-start _ _ _ c.requires
 
-pub read_line-h-requires : goal.read_line-h-requires
-read_line-h-requires c = (c.loop-h.invariant.inside, not-fine)
+pub returns-then-not-is_at : goal.returns-then-not-is_at
+unfolding rank
+returns-then-not-is_at c = bound-done _ _ _ _ _ _ c.loop-line.invariant _ c.read_line-line.ensures (not-at c.is_at.ensures.1 c.if-not-is_at.true)
 
-pub returns-then-class_of-ne-AT_BINDING : goal.returns-then-class_of-ne-AT_BINDING
-returns-then-class_of-ne-AT_BINDING c = bound-done _ _ _ _ _ _ c.loop-h.invariant _ c.read_line-h.ensures (λ e. c.if-class_of-ne-AT_BINDING.true (c.class_of.ensures ∙ e))
+pub returns-in_err-head : goal.returns-in_err-head
+unfolding rank
+returns-in_err-head c =
+    let p = err_from_is_err_and c.from_residual.result c.from_residual.ensures.1 in
+    rw (p.1, p.2) (bound-wrong _ _ _ _ _ _ c.loop-line.invariant _ c.read_line-line.ensures (c.is_at.ensures.0 c.if-not-is_at.false) c.loop-line.next.line refl _ c.in_err-head.ensures)
 
-pub returns-then-h-ne-ACCEPTED : goal.returns-then-h-ne-ACCEPTED
-returns-then-h-ne-ACCEPTED c = bound-wrong _ _ _ _ _ _ c.loop-h.invariant _ c.read_line-h.ensures (sym c.class_of.ensures ∙ c.if-class_of-ne-AT_BINDING.false) c.if-h-ne-ACCEPTED.true
+pub returns-then-var-least : goal.returns-then-var-least
+unfolding rank
+returns-then-var-least c =
+    let m = c.in_ok-head.ensures in
+    λ d. rw (c.refused.ensures.0, c.refused.ensures.1) (bound-low _ _ _ _ _ _ c.loop-line.invariant c.in_ok-head.head (rw m at c.read_line-line.ensures) (rw m at (c.is_at.ensures.0 c.if-not-is_at.false)) (omega (arith, c.from-var.ensures)) d)
 
-pub returns-then-n-least : goal.returns-then-n-least
-returns-then-n-least c = bound-low _ _ _ _ _ _ c.loop-h.invariant _ c.read_line-h.ensures (sym c.class_of.ensures ∙ c.if-class_of-ne-AT_BINDING.false) c.if-h-ne-ACCEPTED.false c.if-n-least.true
-
-pub next_line-l-requires : goal.next_line-l-requires
-next_line-l-requires c = bound-room _ _ _ _ _ _ c.loop-h.invariant _ c.read_line-h.ensures
-
-pub loop-h-smaller : goal.loop-h-smaller
-loop-h-smaller c = bound-less _ _ _ _ _ _ c.loop-h.invariant _ c.read_line-h.ensures (sym c.class_of.ensures ∙ c.if-class_of-ne-AT_BINDING.false) c.if-h-ne-ACCEPTED.false c.if-n-least.false
-
-pub loop-h-preserved : goal.loop-h-preserved
-loop-h-preserved c = bound-on _ _ _ _ _ _ c.loop-h.invariant _ c.read_line-h.ensures (sym c.class_of.ensures ∙ c.if-class_of-ne-AT_BINDING.false) c.if-h-ne-ACCEPTED.false c.if-n-least.false _ c.next_line-l.ensures
+pub loop-line-preserved : goal.loop-line-preserved
+unfolding rank
+loop-line-preserved c =
+    let m = c.in_ok-head.ensures in
+    rw (c.behind-next.ensures.0, c.from-var.ensures)
+    (bound-on _ _ _ _ _ _ c.loop-line.invariant c.in_ok-head.head (rw m at c.read_line-line.ensures) (rw m at (c.is_at.ensures.0 c.if-not-is_at.false)) (omega (arith, c.from-var.ensures)) _ c.behind-next.ensures.1)

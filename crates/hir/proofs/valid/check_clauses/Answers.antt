@@ -1,40 +1,33 @@
-use lib.ListN.{drop}
-use Rattle.line.proofs.KnownLaws.{not-fine}
-use Rattle.semantics.specs.Bytes.{split}
-use mathlib.Core.Path.{refl, sym, ◌∙◌}
-use Rattle.hir.proofs.PlaceLaws.{word-known}
-use Rattle.hir.proofs.TopLaws.{clauses-start, clause-room, clause-end, clause-stop, clause-ask, clause-refused, clause-less, clause-on}
+use Rattle.std.proofs.Common.{refl, ◌∙◌, sym, ap}
+use Rattle.std.proofs.lemmas.Result.{err_from_is_err_and}
+use Rattle.semantics.specs.Refusals.{number_of}
+use Rattle.semantics.specs.Sheet.{rank, refused}
+use Rattle.hir.proofs.PlaceLaws.{not-at}
+use Rattle.hir.proofs.TopLaws.{clauses-start, clause-end, clause-stop, clause-refused, clause-on}
 use Rattle.hir.proofs.valid.check_clauses.Goals as goal
 
-pub loop-l-init : goal.loop-l-init
-loop-l-init c = clauses-start _ _ _ _ c.requires
+pub loop-next-init : goal.loop-next-init
+loop-next-init c = clauses-start _ _ _ _ c.requires
 
-pub read_line-h-requires : goal.read_line-h-requires
-read_line-h-requires c = (c.loop-l.invariant.inside, not-fine)
+pub returns-then-is_at : goal.returns-then-is_at
+unfolding rank
+returns-then-is_at c = clause-end _ _ _ _ _ _ c.loop-next.invariant _ c.read_line-line.ensures (c.is_at.ensures.0 c.if-is_at.true) c.loop-next.next.line refl _ c.check_end.ensures
 
-pub check_end-requires : goal.check_end-requires
-check_end-requires c = clause-room _ _ _ _ _ _ c.loop-l.invariant _ c.read_line-h.ensures
+pub returns-in_err-clause : goal.returns-in_err-clause
+unfolding rank
+returns-in_err-clause c =
+    let p = err_from_is_err_and c.from_residual.result c.from_residual.ensures.1 in
+    let f = c.in_err-clause.ensures in
+    rw (p.1, p.2)
+    (clause-stop _ _ _ _ _ _ c.loop-next.invariant _ c.read_line-line.ensures (not-at c.is_at.ensures.1 c.if-is_at.false) _ f.0 ∙ ap (refused (number_of c.in_err-clause.field-0.0.why)) (sym f.1))
 
-pub returns-then-class_of-eq-AT_END : goal.returns-then-class_of-eq-AT_END
-returns-then-class_of-eq-AT_END c = rw c.check_end.ensures (clause-end _ _ _ _ _ _ c.loop-l.invariant _ c.read_line-h.ensures (sym c.class_of.ensures ∙ c.if-class_of-eq-AT_END.true) _ refl)
+pub returns-in_err-next : goal.returns-in_err-next
+unfolding rank
+returns-in_err-next c =
+    let p = err_from_is_err_and c.from_residual-in_err-next.result c.from_residual-in_err-next.ensures.1 in
+    let m = c.in_ok-clause.ensures in
+    rw (p.1, p.2) (clause-refused _ _ _ _ _ _ c.loop-next.invariant c.in_ok-clause.clause (rw m.0 at c.read_line-line.ensures) (rw m.0 at m.1) _ c.next_line.ensures _ c.in_err-next.ensures)
 
-pub verdict-why-requires : goal.verdict-why-requires
-verdict-why-requires c = let s = c.args.sheet.now in let p = c.loop-l.p in word-known s p c.read_line-h.result (split 10 (drop p s)) c.read_line-h.ensures
-
-pub returns-then-why-ne0 : goal.returns-then-why-ne0
-returns-then-why-ne0 c = clause-stop _ _ _ _ _ _ c.loop-l.invariant _ c.read_line-h.ensures (λ e. c.if-class_of-eq-AT_END.false (c.class_of.ensures ∙ e)) _ c.verdict-why.ensures c.if-why-ne0.true
-
-pub next_line-requires : goal.next_line-requires
-next_line-requires c = clause-room _ _ _ _ _ _ c.loop-l.invariant _ c.read_line-h.ensures
-
-pub check_kids-requires : goal.check_kids-requires
-check_kids-requires c = clause-ask _ _ _ _ _ _ c.loop-l.invariant _ c.read_line-h.ensures (λ e. c.if-class_of-eq-AT_END.false (c.class_of.ensures ∙ e)) _ c.verdict-why.ensures c.if-why-ne0.false _ c.next_line.ensures
-
-pub loop-l-smaller : goal.loop-l-smaller
-loop-l-smaller c = clause-less _ _ _ _ _ _ c.loop-l.invariant _ c.read_line-h.ensures (λ e. c.if-class_of-eq-AT_END.false (c.class_of.ensures ∙ e)) _ c.verdict-why.ensures c.if-why-ne0.false _ c.next_line.ensures _ c.check_kids.ensures _ _ c.in-Fine.is
-
-pub loop-l-preserved : goal.loop-l-preserved
-loop-l-preserved c = clause-on _ _ _ _ _ _ c.loop-l.invariant _ c.read_line-h.ensures (λ e. c.if-class_of-eq-AT_END.false (c.class_of.ensures ∙ e)) _ c.verdict-why.ensures c.if-why-ne0.false _ c.next_line.ensures _ c.check_kids.ensures _ _ c.in-Fine.is
-
-pub returns-in-Refused : goal.returns-in-Refused
-returns-in-Refused c = clause-refused _ _ _ _ _ _ c.loop-l.invariant _ c.read_line-h.ensures (λ e. c.if-class_of-eq-AT_END.false (c.class_of.ensures ∙ e)) _ c.verdict-why.ensures c.if-why-ne0.false _ c.next_line.ensures _ c.check_kids.ensures _ _ c.in-Refused.is
+pub loop-next-preserved : goal.loop-next-preserved
+unfolding rank
+loop-next-preserved c = let m = c.in_ok-clause.ensures in clause-on _ _ _ _ _ _ c.loop-next.invariant c.in_ok-clause.clause (rw m.0 at c.read_line-line.ensures) (rw m.0 at m.1) _ c.next_line.ensures _ c.in_ok-next.ensures

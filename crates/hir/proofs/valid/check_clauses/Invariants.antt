@@ -1,10 +1,10 @@
-use lib.ListN.{length}
 use Prim.Native.Nat.{◌-◌}
+use lib.ListN.{length}
 use Rattle.hir.proofs.TopLaws.{ClausesInv}
 use Rattle.hir.proofs.valid.check_clauses.Given as goal
 
-abbrev pub invariant-loop-l : goal.invariant-loop-l
-invariant-loop-l l = ClausesInv l.depth l.sheet l.initial.p l.initial.l.0 l.p l.l.0
+abbrev pub invariant-loop-next : goal.invariant-loop-next
+invariant-loop-next l = ClausesInv l.depth l.sheet l.initial.next.at l.initial.next.line.0 l.next.at l.next.line.0
 
-abbrev pub decreases-loop-l : goal.decreases-loop-l
-decreases-loop-l l = length l.sheet - l.p
+abbrev pub decreases-loop-next : goal.decreases-loop-next
+decreases-loop-next l = length l.sheet - l.next.at

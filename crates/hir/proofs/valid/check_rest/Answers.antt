@@ -1,17 +1,16 @@
-use Rattle.hir.proofs.SheetLaws.{rest-binds, rest-ask, rest-clauses, rest-fine}
+use Rattle.std.proofs.lemmas.Result.{err_from_is_err_and}
+use Rattle.hir.proofs.SheetLaws.{rest-binds, rest-clauses, rest-fine}
 use Rattle.hir.proofs.valid.check_rest.Goals as goal
 
-pub check_binds-requires : goal.check_binds-requires
-check_binds-requires c = c.requires
+pub returns-in_err-next : goal.returns-in_err-next
+returns-in_err-next c =
+    let p = err_from_is_err_and c.from_residual.result c.from_residual.ensures.1 in
+    rw (p.1, p.2) (rest-binds c.args.depth c.args.sheet.now c.args.from _ c.in_err-next.ensures)
 
-pub check_clauses-requires : goal.check_clauses-requires
-check_clauses-requires c = rest-ask 0 _ _ _ c.check_binds.ensures _ _ c.in-Fine.is c.requires
+pub returns-in_err-check_clauses : goal.returns-in_err-check_clauses
+returns-in_err-check_clauses c =
+    let p = err_from_is_err_and c.from_residual-in_err-check_clauses.result c.from_residual-in_err-check_clauses.ensures.1 in
+    rw (p.1, p.2) (rest-clauses c.args.depth c.args.sheet.now c.args.from _ c.in_ok-next.ensures _ c.in_err-check_clauses.ensures)
 
-pub returns-in-Refused : goal.returns-in-Refused
-returns-in-Refused c = rest-binds _ _ _ _ c.check_binds.ensures _ _ c.in-Refused.is _ c.refused.ensures.0 c.refused.ensures.1
-
-pub returns-in-Refused-check_clauses : goal.returns-in-Refused-check_clauses
-returns-in-Refused-check_clauses c = rest-clauses _ _ _ _ c.check_binds.ensures _ _ c.in-Fine.is _ c.check_clauses.ensures _ _ c.in-Refused-check_clauses.is _ c.refused-in-Refused-check_clauses.ensures.0 c.refused-in-Refused-check_clauses.ensures.1
-
-pub returns-in-Fine-check_clauses : goal.returns-in-Fine-check_clauses
-returns-in-Fine-check_clauses c = rest-fine _ _ _ _ c.check_binds.ensures _ _ c.in-Fine.is _ c.check_clauses.ensures _ _ c.in-Fine-check_clauses.is
+pub returns : goal.returns
+returns c = rest-fine c.args.depth c.args.sheet.now c.args.from _ c.in_ok-next.ensures c.in_ok-check_clauses.ensures

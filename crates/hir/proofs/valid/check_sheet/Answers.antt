@@ -1,22 +1,13 @@
-use lib.ListN.{drop}
-use Rattle.line.proofs.KnownLaws.{not-fine}
-use Rattle.semantics.specs.Bytes.{split}
-use native.Mathlib.Omega.{arith}
-use Rattle.hir.proofs.PlaceLaws.{word-known}
-use Rattle.hir.proofs.SheetLaws.{first-stop, first-ask, first_on}
+use Rattle.std.proofs.lemmas.Result.{err_from_is_err_and}
+use Rattle.semantics.specs.Sheet.{rank}
+use Rattle.hir.proofs.SheetLaws.{first-stop, first_on}
 use Rattle.hir.proofs.valid.check_sheet.Goals as goal
 
-pub read_line-h-requires : goal.read_line-h-requires
-read_line-h-requires c = (omega arith, not-fine)
-
-pub verdict-why-requires : goal.verdict-why-requires
-verdict-why-requires c = let s = c.args.sheet.now in word-known s 0 c.read_line-h.result (split 10 (drop 0 s)) c.read_line-h.ensures
-
-pub returns-then-why-ne0 : goal.returns-then-why-ne0
-returns-then-why-ne0 c = first-stop _ _ c.read_line-h.ensures c.args.depth _ c.verdict-why.ensures c.if-why-ne0.true _ c.refused.ensures.0 c.refused.ensures.1
-
-pub check_rest-requires : goal.check_rest-requires
-check_rest-requires c = first-ask _ _ c.read_line-h.ensures c.args.depth _ c.verdict-why.ensures (omega (arith, c.if-why-ne0.false)) c.requires
+pub returns-in_err-first : goal.returns-in_err-first
+returns-in_err-first c =
+    let p = err_from_is_err_and c.from_residual.result c.from_residual.ensures.1 in
+    rw (p.1, p.2) (first-stop _ _ _ c.read_line.ensures _ c.in_err-first.ensures)
 
 pub returns : goal.returns
-returns c = first_on _ _ c.read_line-h.ensures c.args.depth _ c.verdict-why.ensures (omega (arith, c.if-why-ne0.false)) _ c.check_rest.ensures
+unfolding rank
+returns c = let m = c.in_ok-first.ensures in first_on c.args.sheet.now c.args.depth c.in_ok-first.first (rw m.0 at c.read_line.ensures) (rw m.0 at m.1) _ c.check_rest.ensures

@@ -3,8 +3,8 @@ use lib.ListN.{length}
 use Rattle.infer.proofs.StatementLaws.{Going}
 use Rattle.infer.proofs.statement.check_statement.Given as goal
 
-abbrev pub invariant-loop-b : goal.invariant-loop-b
-invariant-loop-b l = Going l.levels l.sheet l.b l.initial.c l.initial.work l.work l.initial.out l.out l.c l.y l.types
+abbrev pub invariant-loop-word : goal.invariant-loop-word
+invariant-loop-word l = Going l.levels l.sheet.text.now l.sheet.binds l.initial.c l.initial.work l.work l.initial.out l.out l.c l.y l.types
 
-abbrev pub decreases-loop-b : goal.decreases-loop-b
-decreases-loop-b l = length l.sheet + 2 - l.c.line.0
+abbrev pub decreases-loop-word : goal.decreases-loop-word
+decreases-loop-word l = length l.sheet.text.now + 2 - l.c.line.0

@@ -1,17 +1,23 @@
-use Rattle.infer.proofs.WalkLeaf.{leaf-past, leaf-bound, leaf-wide, leaf-variable, leaf-constant}
+use mathlib.Core.Path.{◌≡◌}
+use mathlib.Core.Bool.{false}
+use borrow.Author.Rules.{rules}
+use Rattle.line.specs.Words.{word_of}
+use Rattle.infer.proofs.WalkLeaf.{is_var, leaf-past, leaf-bound, leaf-wide, leaf-variable, leaf-constant}
 use Rattle.infer.proofs.walk.infer_leaf.Goals as goal
 
 pub past-behind-requires : goal.past-behind-requires
 past-behind-requires c = leaf-past c.requires
 
-pub var_type-requires : goal.var_type-requires
-var_type-requires c = (leaf-bound c.requires, leaf-wide c.requires)
+pub var_type-len-requires : goal.var_type-len-requires
+var_type-len-requires c = (leaf-bound c.requires, leaf-wide c.requires)
 
-pub constant-requires : goal.constant-requires
-constant-requires c = leaf-wide c.requires
+pub constant-len-requires : goal.constant-len-requires
+constant-len-requires c = leaf-wide c.requires
 
-pub returns-then-h-eq-VAR : goal.returns-then-h-eq-VAR
-returns-then-h-eq-VAR c = leaf-variable c.requires c.past-behind.ensures c.if-h-eq-VAR.true c.var_type.ensures
+pub returns-in-Var : goal.returns-in-Var
+returns-in-Var c = leaf-variable c.requires c.past-behind.ensures c.in-Var.is c.var_type-len.ensures
 
-pub returns : goal.returns
-returns c = leaf-constant c.requires c.past-behind.ensures c.if-h-eq-VAR.false c.constant.ensures
+pub returns-in_default : goal.returns-in_default
+returns-in_default c =
+    let n : is_var (word_of c.args.h.word) ≡ false = search rules in
+    leaf-constant c.requires c.past-behind.ensures n c.constant-len.ensures

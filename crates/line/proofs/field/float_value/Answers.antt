@@ -1,12 +1,14 @@
-use native.Mathlib.Omega.{arith}
-use Rattle.line.proofs.ValueLaws.{float-length, float-fine, float-bad}
+use Rattle.std.proofs.Common.{◌∙◌, sym}
+use Rattle.line.proofs.ValueLaws.{float-length, float-bad, float-fine}
 use Rattle.line.proofs.field.float_value.Goals as goal
+use Rattle.line.proofs.field.float_value.Goals.{then-text-ne-FLOAT_DIGITS-via-then-text-ne-FLOAT_DIGITS, then-text-ne-FLOAT_DIGITS-via-else-text-ne-FLOAT_DIGITS+then-not-all_hex}
 
 pub returns-then-text-ne-FLOAT_DIGITS : goal.returns-then-text-ne-FLOAT_DIGITS
-returns-then-text-ne-FLOAT_DIGITS c = float-length _ c.if-text-ne-FLOAT_DIGITS.true
-
-pub returns-then-all_hex : goal.returns-then-all_hex
-returns-then-all_hex c = float-fine _ _ c.all_hex.ensures c.if-all_hex.true (omega arith)
+returns-then-text-ne-FLOAT_DIGITS c =
+    elim c.then-text-ne-FLOAT_DIGITS.branch [
+      | then-text-ne-FLOAT_DIGITS-via-then-text-ne-FLOAT_DIGITS w ↦ float-length _ w.if-text-ne-FLOAT_DIGITS.true
+      | then-text-ne-FLOAT_DIGITS-via-else-text-ne-FLOAT_DIGITS+then-not-all_hex w ↦ float-bad _ (sym w.if-not-all_hex.true ∙ w.all_hex.ensures)
+    ]
 
 pub returns : goal.returns
-returns c = float-bad _ _ c.all_hex.ensures c.if-all_hex.false
+returns c = float-fine _ (sym c.if-not-all_hex.false ∙ c.all_hex.ensures) c.if-text-ne-FLOAT_DIGITS.false

@@ -1,13 +1,12 @@
-use mathlib.Core.Path.{◌∙◌}
-use native.Mathlib.Omega.{arith}
+use Rattle.std.proofs.Common.{arith, ◌∙◌}
 use Rattle.line.proofs.ValueLaws.{signed-empty, signed-minus, signed-plain}
 use Rattle.line.proofs.field.signed_value.Goals as goal
 
-pub returns-then-text-eq0 : goal.returns-then-text-eq0
-returns-then-text-eq0 c = signed-empty _ c.if-text-eq0.true
+pub returns-in-empty : goal.returns-in-empty
+returns-in-empty c = signed-empty _ (omega arith)
 
-pub returns-then-text-eq-DASH : goal.returns-then-text-eq-DASH
-returns-then-text-eq-DASH c = c.negative_value.ensures ∙ signed-minus _ (omega arith) c.if-text-eq-DASH.true
+pub returns-in-45 : goal.returns-in-45
+returns-in-45 c = c.negative_value.ensures ∙ signed-minus _ c.in-45.len_at_least (omega arith)
 
-pub returns : goal.returns
-returns c = c.positive_value.ensures ∙ signed-plain _ (omega arith) c.if-text-eq-DASH.false
+pub returns-in_default : goal.returns-in_default
+returns-in_default c = c.positive_value.ensures ∙ signed-plain _ c.in_default.len_at_least (λ e. omega arith)

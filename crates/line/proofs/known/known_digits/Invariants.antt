@@ -4,8 +4,8 @@ use Rattle.line.specs.Known.{DigitsAt}
 use Rattle.line.proofs.KnownLaws.{DigitsFrom}
 use Rattle.line.proofs.known.known_digits.Given as goal
 
-abbrev pub invariant-loop-at : goal.invariant-loop-at
-invariant-loop-at l = DigitsAt l.sheet l.at × DigitsFrom l.sheet l.at l.n l.i
+abbrev pub invariant-loop-end : goal.invariant-loop-end
+invariant-loop-end l = DigitsAt l.sheet l.at × DigitsFrom l.sheet l.at l.n l.end
 
-abbrev pub decreases-loop-at : goal.decreases-loop-at
-decreases-loop-at l = length l.sheet - l.i
+abbrev pub decreases-loop-end : goal.decreases-loop-end
+decreases-loop-end l = length l.sheet - l.end

@@ -1,16 +1,12 @@
-use mathlib.Core.Path.{refl, sym, ◌∙◌}
-use native.Mathlib.Omega.{arith}
+use Rattle.std.proofs.Common.{◌∙◌, arith}
 use Rattle.line.proofs.LineLaws.{code-on, code-over, code-end}
 use Rattle.line.proofs.line.word_code.Goals as goal
 
-pub loop-i-init : goal.loop-i-init
-loop-i-init c = (refl, omega arith)
-
 pub returns-then-code-ge-FULL : goal.returns-then-code-ge-FULL
-returns-then-code-ge-FULL c = sym (c.loop-i.invariant.0 ∙ code-over _ _ _ c.loop-i-test.true c.if-code-ge-FULL.true)
+returns-then-code-ge-FULL c = c.loop-b.invariant ∙ code-over c.args.letters.now c.loop-b.b-index c.loop-b.code (omega arith) c.if-code-ge-FULL.true
 
-pub loop-i-preserved : goal.loop-i-preserved
-loop-i-preserved c = (c.loop-i.invariant.0 ∙ code-on _ _ _ c.loop-i-test.true c.if-code-ge-FULL.false ∙ rw c.wide.ensures.0, omega arith)
+pub loop-b-preserved : goal.loop-b-preserved
+loop-b-preserved c = rw c.from.ensures (c.loop-b.invariant ∙ code-on c.args.letters.now c.loop-b.b-index c.loop-b.code (omega arith) c.if-code-ge-FULL.false)
 
 pub returns : goal.returns
-returns c = sym (c.loop-i.invariant.0 ∙ code-end _ _ _ c.loop-i-test.false)
+returns c = (c.loop-b.invariant ∙ code-end c.args.letters.now c.loop-b.b-index c.loop-b.code (omega arith))

@@ -1,18 +1,15 @@
 use mathlib.Core.Path.{ap}
 use mathlib.Core.Bool.{not}
-use Rattle.old.proofs.CallLaws.{call-short, given-short, call-given, call-bad}
+use Rattle.old.proofs.CallLaws.{call-short, call-given, call-bad}
 use Rattle.old.proofs.call.make_regular.Goals as goal
 
 pub returns-then-out-lt-OLD_OUTPUT : goal.returns-then-out-lt-OLD_OUTPUT
-returns-then-out-lt-OLD_OUTPUT c = call-short _ _ _ c.requires c.if-out-lt-OLD_OUTPUT.true _ _ c.refused.ensures
-
-pub write_given-requires : goal.write_given-requires
-write_given-requires c = given-short _ _ c.is_type_line.ensures c.if-is_type_line.true
+returns-then-out-lt-OLD_OUTPUT c = call-short _ _ _ c.requires c.if-out-lt-OLD_OUTPUT.true c.args.out.now
 
 pub returns-then-is_type_line : goal.returns-then-is_type_line
 returns-then-is_type_line c =
-    call-given _ _ _ c.requires c.if-out-lt-OLD_OUTPUT.false _ c.is_type_line.ensures c.if-is_type_line.true _ _ c.write_given.ensures
+    call-given _ _ _ c.requires c.if-out-lt-OLD_OUTPUT.false _ c.is_type_line.ensures c.if-is_type_line.true _ _ c.append.ensures
 
 pub returns-then-not-is_old_line : goal.returns-then-not-is_old_line
 returns-then-not-is_old_line c =
-    call-bad _ _ _ c.requires c.if-out-lt-OLD_OUTPUT.false _ c.is_old_line.ensures (ap not c.if-not-is_old_line.true) _ _ c.refused-then-not-is_old_line.ensures
+    call-bad _ _ _ c.requires c.if-out-lt-OLD_OUTPUT.false _ c.is_old_line.ensures (ap not c.if-not-is_old_line.true) c.args.out.now

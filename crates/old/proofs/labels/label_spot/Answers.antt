@@ -11,11 +11,11 @@ loop-lo-init c = let st = c in let a = st.args in let w = st.requires in (omega 
 pub loop-lo-preserved-in-Less : goal.loop-lo-preserved-in-Less
 loop-lo-preserved-in-Less c = let a = c.args in (c.loop-lo.invariant.0, λ ls m f z. seek-up a.work.now a.n a.name.now ls m f z c.loop-lo.lo c.loop-lo.hi (c.loop-lo.invariant.1 ls m f z) c.loop-lo-test.true c.loop-lo.invariant.0 _ c.middle_label-a.ensures _ c.field_end-c.ensures _ c.compare.ensures c.in-Less.is)
 
-pub returns-in-Same : goal.returns-in-Same
-returns-in-Same c ls m f z = let a = c.args in seek-there a.work.now a.n a.name.now ls m f z c.loop-lo.lo c.loop-lo.hi (c.loop-lo.invariant.1 ls m f z) c.loop-lo-test.true c.loop-lo.invariant.0 _ c.middle_label-a.ensures _ c.field_end-c.ensures _ c.compare.ensures c.in-Same.is
+pub returns-in-Equal : goal.returns-in-Equal
+returns-in-Equal c ls m f z = let a = c.args in seek-there a.work.now a.n a.name.now ls m f z c.loop-lo.lo c.loop-lo.hi (c.loop-lo.invariant.1 ls m f z) c.loop-lo-test.true c.loop-lo.invariant.0 _ c.middle_label-a.ensures _ c.field_end-c.ensures _ c.compare.ensures c.in-Equal.is
 
 pub loop-lo-preserved : goal.loop-lo-preserved
-loop-lo-preserved c = let a = c.args in (omega (arith, c.loop-lo.invariant.0, c.middle_label-a.ensures.inside), λ ls m f z. seek-down a.work.now a.n a.name.now ls m f z c.loop-lo.lo c.loop-lo.hi (c.loop-lo.invariant.1 ls m f z) c.loop-lo-test.true c.loop-lo.invariant.0 _ c.middle_label-a.ensures _ c.field_end-c.ensures _ c.compare.ensures c.in-More.is)
+loop-lo-preserved c = let a = c.args in (omega (arith, c.loop-lo.invariant.0, c.middle_label-a.ensures.inside), λ ls m f z. seek-down a.work.now a.n a.name.now ls m f z c.loop-lo.lo c.loop-lo.hi (c.loop-lo.invariant.1 ls m f z) c.loop-lo-test.true c.loop-lo.invariant.0 _ c.middle_label-a.ensures _ c.field_end-c.ensures _ c.compare.ensures c.in-Greater.is)
 
 pub returns : goal.returns
 returns c ls m f z = let a = c.args in seek-done a.work.now a.n a.name.now ls m f z c.loop-lo.lo c.loop-lo.hi (c.loop-lo.invariant.1 ls m f z) c.loop-lo-test.false

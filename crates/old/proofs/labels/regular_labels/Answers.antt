@@ -14,14 +14,14 @@ field_end-e-requires c = let p = c.requires.0 in let i = c.loop-e.invariant.1 p.
 pub add_label-requires : goal.add_label-requires
 add_label-requires c = let p = c.requires.0 in let i = c.loop-e.invariant.1 p.labels p.rest p.is p.good in let l = (c.loop-e.invariant.0 ∙ start-long c.args.work.now _ _ c.append-n.ensures) in label-ready _ _ _ _ _ _ _ i (sym c.is_field.ensures ∙ c.loop-e-test.true) _ c.field_end-e.ensures.place _ (part_slice c.loop-e.q c.field_end-e.result c.args.s.now) (omega (arith, l, c.requires.1))
 
-pub returns-in-TooLarge : goal.returns-in-TooLarge
-returns-in-TooLarge c ls rest e g = made-long (c.loop-e.invariant.0 ∙ start-long c.args.work.now _ _ c.append-n.ensures) (label-large _ _ _ _ _ _ _ (c.loop-e.invariant.1 ls rest e g) (sym c.is_field.ensures ∙ c.loop-e-test.true) _ c.field_end-e.ensures.place _ (part_slice c.loop-e.q c.field_end-e.result c.args.s.now) _ _ c.add_label.ensures c.in-TooLarge.is)
+pub returns-in_err-n : goal.returns-in_err-n
+returns-in_err-n c ls rest e g = rw c.from_residual.ensures (made-long (c.loop-e.invariant.0 ∙ start-long c.args.work.now _ _ c.append-n.ensures) (label-large _ _ _ _ _ _ _ (c.loop-e.invariant.1 ls rest e g) (sym c.is_field.ensures ∙ c.loop-e-test.true) _ c.field_end-e.ensures.place _ (part_slice c.loop-e.q c.field_end-e.result c.args.s.now) _ _ c.add_label.ensures c.in_err-n.was))
 
 pub loop-e-smaller : goal.loop-e-smaller
 loop-e-smaller c = let p = c.requires.0 in let i = c.loop-e.invariant.1 p.labels p.rest p.is p.good in omega (arith, label_inside _ _ _ _ _ _ _ i (sym c.is_field.ensures ∙ c.loop-e-test.true) _ c.field_end-e.ensures.place, c.field_end-e.ensures.from)
 
 pub loop-e-preserved : goal.loop-e-preserved
-loop-e-preserved c = let p = c.requires.0 in let i = c.loop-e.invariant.1 p.labels p.rest p.is p.good in (label-long _ _ _ _ _ _ _ i (sym c.is_field.ensures ∙ c.loop-e-test.true) _ c.field_end-e.ensures.place _ (part_slice c.loop-e.q c.field_end-e.result c.args.s.now) _ _ c.add_label.ensures ∙ c.loop-e.invariant.0, λ ls rest e g. label-on _ _ _ _ _ _ _ (c.loop-e.invariant.1 ls rest e g) (sym c.is_field.ensures ∙ c.loop-e-test.true) _ c.field_end-e.ensures.place _ (part_slice c.loop-e.q c.field_end-e.result c.args.s.now) _ _ c.add_label.ensures _ c.in-Len.is)
+loop-e-preserved c = let p = c.requires.0 in let i = c.loop-e.invariant.1 p.labels p.rest p.is p.good in (label-long _ _ _ _ _ _ _ i (sym c.is_field.ensures ∙ c.loop-e-test.true) _ c.field_end-e.ensures.place _ (part_slice c.loop-e.q c.field_end-e.result c.args.s.now) _ _ c.add_label.ensures ∙ c.loop-e.invariant.0, λ ls rest e g. label-on _ _ _ _ _ _ _ (c.loop-e.invariant.1 ls rest e g) (sym c.is_field.ensures ∙ c.loop-e-test.true) _ c.field_end-e.ensures.place _ (part_slice c.loop-e.q c.field_end-e.result c.args.s.now) _ _ c.add_label.ensures _ c.in_ok-n.was)
 
 pub overflow_add-result : goal.overflow_add-result
 overflow_add-result c = omega (arith, (field-yes _ _ _ (sym c.is_field.ensures ∙ c.loop-e-test.false)).1)

@@ -1,9 +1,7 @@
-use Prim.Native.Nat.{◌-◌}
-use Rattle.old.proofs.Entered.{Comparing}
+use mathlib.Core.Path.{◌≡◌}
+use mathlib.Core.Bool.{false}
+use Rattle.old.specs.Read.{NoneAlike}
 use Rattle.old.proofs.reader.alike_before.Given as goal
 
 abbrev pub invariant-loop-i : goal.invariant-loop-i
-invariant-loop-i l = Comparing l.s l.from l.e l.g l.i l.hit
-
-abbrev pub decreases-loop-i : goal.decreases-loop-i
-decreases-loop-i l = l.q - l.i
+invariant-loop-i l = l.hit ≡ false → NoneAlike l.s l.from l.i l.e l.g

@@ -1,7 +1,6 @@
+use Rattle.exprs.proofs.CallLaws.{room-one}
 use Rattle.operators.proofs.InLaws.{in-free, in-fault}
 use Rattle.operators.proofs.Meets.{two-inside, two-kinds}
-use mathlib.Core.Logic.{inr}
-use mathlib.Core.Path.{refl}
 use native.Mathlib.Omega.{arith}
 use Rattle.operators.proofs.membership.check_in_list.Goals as goal
 
@@ -14,7 +13,7 @@ returns-then-lets_in c = λ a b h. in-free h c.if-b-eq-LIST.false _ c.lets_in.en
 pub fault-c-requires : goal.fault-c-requires
 fault-c-requires c =
     let n = c.requires.1 in
-    (omega (arith, n.fill), omega (arith, n.faults), inr (inr (inr refl)), (two-kinds c.requires.0).second)
+    (room-one n, (two-kinds c.requires.0).second)
 
 pub returns : goal.returns
 returns c = λ a b h. in-fault h c.if-b-eq-LIST.false _ c.lets_in.ensures c.if-lets_in.false c.fault-c.ensures c.is_bool-2.ensures

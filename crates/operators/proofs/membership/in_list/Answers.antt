@@ -1,3 +1,6 @@
+use mathlib.Core.Path.{◌∙◌, ap}
+use Rattle.std.specs.Prelude.{Err}
+use Rattle.unify.specs.declared.UnifyError.{UnifyError}
 use Rattle.operators.proofs.InLaws.{list-line, list-first, list-ready, list-kinds, list_done, list-apart, list-large}
 use Rattle.operators.proofs.membership.in_list.Goals as goal
 
@@ -13,11 +16,11 @@ unify-requires c = list-ready c.requires.0 c.requires.2
 pub mismatch_in-c-requires : goal.mismatch_in-c-requires
 mismatch_in-c-requires c = (list-kinds c.requires.0 c.requires.2 c.element-element.ensures, c.requires.1)
 
-pub returns-in-Done : goal.returns-in-Done
-returns-in-Done c = λ a b h. list_done c.unify.ensures h c.requires.2 c.in-Done.is c.is_bool.ensures
+pub returns-in-Ok : goal.returns-in-Ok
+returns-in-Ok c = λ a b h. list_done c.unify.ensures h c.requires.2 c.in-Ok.is c.is_bool.ensures
 
-pub returns-in-Mismatch : goal.returns-in-Mismatch
-returns-in-Mismatch c = λ a b h. list-apart c.unify.ensures h c.requires.2 c.element-element.ensures c.in-Mismatch.is c.mismatch_in-c.ensures c.is_bool-in-Mismatch.ensures
+pub returns-in-Err-Mismatch : goal.returns-in-Err-Mismatch
+returns-in-Err-Mismatch c = λ a b h. list-apart c.unify.ensures h c.requires.2 c.element-element.ensures (c.in-Err-Mismatch.is ∙ ap (λ (x : UnifyError). Err x) c.in-Err-Mismatch.field-0-is) c.mismatch_in-c.ensures c.is_bool-in-Err-Mismatch.ensures
 
-pub returns-in-TooLarge : goal.returns-in-TooLarge
-returns-in-TooLarge c = λ a b h. list-large c.unify.ensures h c.requires.2 c.in-TooLarge.is
+pub returns-in-Err-TooLarge : goal.returns-in-Err-TooLarge
+returns-in-Err-TooLarge c = λ a b h. list-large c.unify.ensures h c.requires.2 (c.in-Err-TooLarge.is ∙ ap (λ (x : UnifyError). Err x) c.in-Err-TooLarge.field-0-is)

@@ -1,15 +1,16 @@
-use native.Mathlib.Omega.{arith}
-use Rattle.operators.proofs.InLaws.{lets-any, lets-null, lets-unknown, lets-none}
+use Rattle.std.proofs.Common.{arith}
+use Rattle.std.proofs.lemmas.Bool.Decides.{nat_tests}
+use Rattle.operators.proofs.InLaws.{lets}
 use Rattle.operators.proofs.membership.lets_in.Goals as goal
 
 pub returns-in-65 : goal.returns-in-65
-returns-in-65 c = lets-any _ c.in-65.is
+returns-in-65 c = lets _ _ (grind (arith, nat_tests))
 
-pub returns-in-66 : goal.returns-in-66
-returns-in-66 c = lets-null _ c.in-66.is
-
-pub returns-in-80 : goal.returns-in-80
-returns-in-80 c = lets-unknown _ c.in-80.is
+pub returns-in-65-2 : goal.returns-in-65-2
+returns-in-65-2 c = lets _ _ (grind (arith, nat_tests))
 
 pub returns-in_default : goal.returns-in_default
-returns-in_default c = lets-none _ (λ e. omega arith) (λ e. omega arith) (λ e. omega arith)
+returns-in_default c = lets _ _ (grind (arith, nat_tests))
+
+pub returns-in_default-2 : goal.returns-in_default-2
+returns-in_default-2 c = lets _ _ (grind (arith, nat_tests))

@@ -1,19 +1,22 @@
+use Rattle.exprs.proofs.CallLaws.{room-one}
 use Rattle.operators.proofs.OpLaws.{one-kind, unary-minus, unary-not}
-use native.Mathlib.Omega.{arith}
 use Rattle.operators.proofs.operators.infer_unaryop.Goals as goal
 
-pub require_numeric-c-requires : goal.require_numeric-c-requires
-require_numeric-c-requires c =
+pub require-c-requires : goal.require-c-requires
+require-c-requires c =
     let st = c in
-    (omega (arith, st.requires.1.fill), omega (arith, st.requires.1.faults), record { ty = st.requires.0.ty; is = one-kind st.requires.0.at })
+    (room-one st.requires.1, record { ty = st.requires.0.ty; is = one-kind st.requires.0.at })
 
 pub returns-then-num-eq-NEG : goal.returns-then-num-eq-NEG
-returns-then-num-eq-NEG c = λ t h. unary-minus _ h c.if-num-eq-NEG.true c.numeric.ensures c.put_letter.ensures c.require_numeric-c.ensures
+returns-then-num-eq-NEG c = λ t h. unary-minus _ h c.if-num-eq-NEG.true c.numeric.ensures c.put_letter.ensures c.require-c.ensures
 
-pub require_bool-c-requires : goal.require_bool-c-requires
-require_bool-c-requires c =
+pub require-c-requires-2 : goal.require-c-requires-2
+require-c-requires-2 c =
     let st = c in
-    (omega (arith, st.requires.1.fill), omega (arith, st.requires.1.faults), record { ty = st.requires.0.ty; is = one-kind st.requires.0.at })
+    (room-one st.requires.1, record { ty = st.requires.0.ty; is = one-kind st.requires.0.at })
 
 pub returns : goal.returns
-returns c = λ t h. unary-not _ h c.if-num-eq-NEG.false c.is_bool.ensures c.require_bool-c.ensures
+returns c = λ t h. unary-not _ h c.if-num-eq-NEG.false c.is_bool.ensures c.require-c-2.ensures
+
+pub numeric-requires : goal.numeric-requires
+numeric-requires c = record { ty = c.requires.0.ty; is = one-kind c.requires.0.at }

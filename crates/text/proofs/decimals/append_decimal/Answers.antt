@@ -1,6 +1,6 @@
 use native.Mathlib.Omega.{arith}
 use Prim.Native.Nat.{ℕ, ◌+◌, ◌-◌, ◌/◌, ◌%◌, ◌≤◌, ◌<◌, ◌^◌}
-use mathlib.Core.Path.{sym, ap, ap₂, subst, ◌∙◌}
+use mathlib.Core.Path.{◌≡◌, sym, ap, ap₂, subst, ◌∙◌}
 use lib.ListN.{length, set}
 use lib.Seq.{sets}
 use Rattle.semantics.specs.Bytes.{Bytes}
@@ -14,32 +14,32 @@ loop-i-init c =
     let a = c.args in
     let b = c.digits_behind-i.ensures in
     let e = shown-first a.n c.digits_behind-i.result b in
-    (b.few, b.above, ap (λ (k : ℕ). a.fill + k) (sym (tens-length c.digits_behind-i.result a.n) ∙ ap length (sym e)), ap (sets a.out.now a.fill) (sym e))
+    (b.above, ap (λ (k : ℕ). a.fill + k) (sym (tens-length c.digits_behind-i.result a.n) ∙ ap length (sym e)), ap (sets a.out.now a.fill) (sym e))
 
 pub put-at-requires : goal.put-at-requires
-put-at-requires c = let b = c in omega (arith, b.loop-i.invariant.2, shown-short b.args.n)
+put-at-requires c = let b = c in omega (arith, b.loop-i.invariant.1, shown-short b.args.n)
 
 pub loop-i-preserved : goal.loop-i-preserved
 loop-i-preserved c =
     let b = c in
     let l = b.loop-i in
     let d = c.digit_of-d.ensures in
-    let p = c.power.ensures in
     let low : 0 < l.i = omega (arith, c.loop-i-test.true) in
+    let q : l.i - 1 + 1 ≡ l.i = omega arith in
+    let p = c.power.ensures ∙ ap (λ (k : ℕ). 10 ^ k) q in
     let m = d.1 ∙ ap (λ (k : ℕ). l.m % k) p in
     let x = d.0 ∙ ap (λ (k : ℕ). l.m / k) p in
     let w = c.put-at.ensures in (
-      omega (arith, l.invariant.0),
       subst (λ (k : ℕ). k < 10 ^ (l.i - 1 + 1)) (sym m) (rest-low l.i l.m low),
-      omega (arith, w.0, l.invariant.2, low),
+      omega (arith, w.0, l.invariant.1, low),
       ap₂ (λ (o : Bytes) (k : ℕ). sets o k (tens (l.i - 1) c.digit_of-d.result.rest)) (w.1 ∙ ap (λ (k : ℕ). set l.out l.at (48 + k)) x) w.0
           ∙ ap (λ (k : ℕ). sets (set l.out l.at (48 + l.m / 10 ^ l.i)) (l.at + 1) (tens (l.i - 1) k)) m
           ∙ sym (tens-step l.out l.at l.i l.m low)
-          ∙ l.invariant.3,
+          ∙ l.invariant.2,
     )
 
 pub put-requires : goal.put-requires
-put-requires c = let b = c in omega (arith, b.loop-i.invariant.2, shown-short b.args.n)
+put-requires c = let b = c in omega (arith, b.loop-i.invariant.1, shown-short b.args.n)
 
 pub returns : goal.returns
 returns c =
@@ -47,4 +47,4 @@ returns c =
     let a = c.args in
     let w = c.put.ensures in
     let low : l.i ≤ 0 = omega (arith, c.loop-i-test.false) in
-    (omega (arith, w.0, l.invariant.2, low), w.1 ∙ tens-end l.out l.at l.i l.m low ∙ l.invariant.3, omega (arith, w.0, l.invariant.2, low, shown-short a.n))
+    (omega (arith, w.0, l.invariant.1, low), w.1 ∙ tens-end l.out l.at l.i l.m low ∙ l.invariant.2, omega (arith, w.0, l.invariant.1, low, shown-short a.n))

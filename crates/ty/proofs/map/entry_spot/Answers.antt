@@ -31,11 +31,11 @@ loop-q-smaller c = let st = c in let a = st.args in let w = st.requires in let l
 pub loop-q-preserved : goal.loop-q-preserved
 loop-q-preserved c fs n f = let st = c in let a = st.args in let l = c.loop-q in let m = look a.part.now a.name.now a.len fs n l.q f (l.invariant fs n f) c.loop-q-test.true in let i = q_in a.part.now a.name.now a.len fs n l.q f c.loop-q-test.true in value_on a.part.now a.name.now a.len fs n l.q f m i _ c.next_field-v.ensures _ c.type_end-e.ensures _ c.field_end-c.ensures _ c.compare.ensures c.in-Less.is
 
-pub returns-in-Same : goal.returns-in-Same
-returns-in-Same c fs n f = let st = c in let a = st.args in let l = c.loop-q in let m = look a.part.now a.name.now a.len fs n l.q f (l.invariant fs n f) c.loop-q-test.true in let i = q_in a.part.now a.name.now a.len fs n l.q f c.loop-q-test.true in value-old a.part.now a.name.now a.len fs n l.q f m i _ c.next_field-v.ensures _ c.type_end-e.ensures _ c.field_end-c.ensures _ c.compare.ensures c.in-Same.is
+pub returns-in-Equal : goal.returns-in-Equal
+returns-in-Equal c fs n f = let st = c in let a = st.args in let l = c.loop-q in let m = look a.part.now a.name.now a.len fs n l.q f (l.invariant fs n f) c.loop-q-test.true in let i = q_in a.part.now a.name.now a.len fs n l.q f c.loop-q-test.true in value-old a.part.now a.name.now a.len fs n l.q f m i _ c.next_field-v.ensures _ c.type_end-e.ensures _ c.field_end-c.ensures _ c.compare.ensures c.in-Equal.is
 
-pub returns-in-More : goal.returns-in-More
-returns-in-More c fs n f = let st = c in let a = st.args in let l = c.loop-q in let m = look a.part.now a.name.now a.len fs n l.q f (l.invariant fs n f) c.loop-q-test.true in let i = q_in a.part.now a.name.now a.len fs n l.q f c.loop-q-test.true in value-new a.part.now a.name.now a.len fs n l.q f m i _ c.next_field-v.ensures _ c.type_end-e.ensures _ c.field_end-c.ensures _ c.compare.ensures c.in-More.is
+pub returns-in-Greater : goal.returns-in-Greater
+returns-in-Greater c fs n f = let st = c in let a = st.args in let l = c.loop-q in let m = look a.part.now a.name.now a.len fs n l.q f (l.invariant fs n f) c.loop-q-test.true in let i = q_in a.part.now a.name.now a.len fs n l.q f c.loop-q-test.true in value-new a.part.now a.name.now a.len fs n l.q f m i _ c.next_field-v.ensures _ c.type_end-e.ensures _ c.field_end-c.ensures _ c.compare.ensures c.in-Greater.is
 
 pub returns : goal.returns
 returns c fs n f = let a = c.args in at_last a.part.now a.name.now a.len fs n c.loop-q.q f (c.loop-q.invariant fs n f) c.loop-q-test.false

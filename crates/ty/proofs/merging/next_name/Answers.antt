@@ -31,12 +31,12 @@ returns-in-Less c o u h k =
     let st = c in
     next-compared st.args.s.now st.args.p st.args.q _ _ o u _ _ h k c.if-s-p-eq-CLOSE.false c.if-s-q-eq-CLOSE-2.false c.field_end-pe.ensures c.field_end-qe.ensures c.compare_in.ensures c.in-Less.is
 
-pub returns-in-Same : goal.returns-in-Same
-returns-in-Same c o u h k =
+pub returns-in-Equal : goal.returns-in-Equal
+returns-in-Equal c o u h k =
     let st = c in
-    next-compared st.args.s.now st.args.p st.args.q _ _ o u _ _ h k c.if-s-p-eq-CLOSE.false c.if-s-q-eq-CLOSE-2.false c.field_end-pe.ensures c.field_end-qe.ensures c.compare_in.ensures c.in-Same.is
+    next-compared st.args.s.now st.args.p st.args.q _ _ o u _ _ h k c.if-s-p-eq-CLOSE.false c.if-s-q-eq-CLOSE-2.false c.field_end-pe.ensures c.field_end-qe.ensures c.compare_in.ensures c.in-Equal.is
 
-pub returns-in-More : goal.returns-in-More
-returns-in-More c o u h k =
+pub returns-in-Greater : goal.returns-in-Greater
+returns-in-Greater c o u h k =
     let st = c in
-    next-compared st.args.s.now st.args.p st.args.q _ _ o u _ _ h k c.if-s-p-eq-CLOSE.false c.if-s-q-eq-CLOSE-2.false c.field_end-pe.ensures c.field_end-qe.ensures c.compare_in.ensures c.in-More.is
+    next-compared st.args.s.now st.args.p st.args.q _ _ o u _ _ h k c.if-s-p-eq-CLOSE.false c.if-s-q-eq-CLOSE-2.false c.field_end-pe.ensures c.field_end-qe.ensures c.compare_in.ensures c.in-Greater.is

@@ -1,33 +1,62 @@
-use mathlib.Core.Path.{sym, ◌∙◌}
-use mathlib.Core.Bool.{true}
+use mathlib.Core.Path.{sym, ap, ◌∙◌}
 use native.Mathlib.Omega.{arith}
-use Rattle.ty.proofs.Strict.{content-two, part-places}
-use Rattle.ty.proofs.Loops.{reading, no-nesting, value-bounds, content-four, part-bad, part-refused, part-read, parts-read}
+use Rattle.std.specs.Prelude.{Some}
+use Rattle.ty.specs.Read.{Within}
+use Rattle.ty.proofs.Fields.{letter_at_lem}
+use Rattle.ty.proofs.Flat.{no-letter, flat-none, flat-base, flat-node, flat-rel}
+use Rattle.ty.proofs.Loops.{no-nesting, value-bounds, base-within, node-within, within-node, rel-within, within-rel, parts-start, some-seen, parts-bad, parts-refused, parts-places, parts-on, parts-few, end-list, end-closed}
+use Rattle.ty.proofs.reader.+read_type.Goals.{in_default-via-in-79+else-not-is_enough, in_default-via-in_default-1}
 use Rattle.ty.proofs.reader.+read_type.Goals as goal
 
 pub returns-then-left-eq0 : goal.returns-then-left-eq0
-returns-then-left-eq0 t c = let a = c in no-nesting true a.args.s.now a.args.at _ c.if-left-eq0.true
+returns-then-left-eq0 g t c = no-nesting _ c.args.s.now c.args.at _ c.if-left-eq0.true
+
+pub returns-in_err-k : goal.returns-in_err-k
+returns-in_err-k g t c = rw c.from_residual.ensures (no-letter (Within g.F.Form.Fine c.args.left) _ _ (sym c.letter.ensures ∙ c.in_err-k.was))
+
+pub returns-in_err-of : goal.returns-in_err-of
+returns-in_err-of g t c = rw c.from_residual-in_err-of.ensures (flat-none (Within g.F.Form.Fine c.args.left) _ _ _ (sym c.letter.ensures ∙ c.in_ok-k.was) (sym c.of.ensures ∙ c.in_err-of.was))
+
+pub returns-in-Nothing : goal.returns-in-Nothing
+returns-in-Nothing g t c = flat-base (Within g.F.Form.Fine c.args.left) _ _ _ (sym c.letter.ensures ∙ c.in_ok-k.was) (sym c.of.ensures ∙ c.in_ok-of.was ∙ ap Some c.in-Nothing.is) (base-within c.requires.1 _ (omega arith))
+
+pub returns-in-Labels : goal.returns-in-Labels
+returns-in-Labels g t c = flat-node (Within g.F.Form.Fine c.args.left) _ _ _ (sym c.letter.ensures ∙ c.in_ok-k.was) (sym c.of.ensures ∙ c.in_ok-of.was ∙ ap Some c.in-Labels.is) _ (node-within c.requires.1 _ (omega arith)) (within-node c.requires.1 _) _ c.read_node.ensures
+
+pub returns-in-RelationshipName : goal.returns-in-RelationshipName
+returns-in-RelationshipName g t c =
+    flat-rel (Within g.F.Form.Fine c.args.left) _ _ _ (sym c.letter.ensures ∙ c.in_ok-k.was) (sym c.of.ensures ∙ c.in_ok-of.was ∙ ap Some c.in-RelationshipName.is) _ (rel-within c.requires.1 _ (omega arith)) (within-rel c.requires.1 _) _ c.read_relationship.ensures
 
 pub loop-v-init : goal.loop-v-init
-loop-v-init t c = let a = c in reading true _ _ _ _ c.if-left-eq0.false (content-two a.args.s.now a.args.at _ _ c.letter-k.ensures c.content-c.ensures (omega (arith, c.if-c-lt-TYPES.false))) (content-four _ _ c.content-c.ensures c.if-c-lt-TYPES.false)
+loop-v-init g t c = parts-start c.requires.1 _ _ _ _ c.if-left-eq0.false (letter_at_lem _ _ _ (sym c.letter.ensures ∙ c.in_ok-k.was)) (sym c.of.ensures ∙ c.in_ok-of.was ∙ ap Some c.in-Types.is)
 
 pub read_type-requires : goal.read_type-requires
-read_type-requires t c = let a = c in (omega (arith, c.loop-v.invariant.deep), rw c.value_at-v.ensures (value-bounds _ _ _ c.loop-v.invariant.inside).1)
+read_type-requires g t c = λ κs o. (omega (arith, c.loop-v.invariant.reads.deep), (o, (rw c.value_at-v.ensures (value-bounds _ _ _ c.loop-v.invariant.reads.inside).1, c.requires.1)))
 
 pub part_allowed-requires : goal.part_allowed-requires
-part_allowed-requires t c = let i = c.loop-v.invariant in let w = part-places _ _ _ _ _ i.inside (rw c.in-End.is at (rw c.value_at-v.ensures at c.read_type.ensures)) in (i.order, w.0, w.1)
+part_allowed-requires g t c = let w = parts-places _ _ _ _ _ _ _ _ c.loop-v.invariant (sym c.part_follows.ensures ∙ c.loop-v-test.true) _ (rw c.in_ok-e.was at (rw c.value_at-v.ensures at c.read_type.ensures)) in (some-seen _ _ _ _ _ _ _ _ c.loop-v.invariant, w.0, w.1)
 
 pub returns-then-not-part_allowed : goal.returns-then-not-part_allowed
-returns-then-not-part_allowed t c = part-refused _ _ _ _ _ _ _ c.loop-v.invariant (sym c.part_follows.ensures ∙ c.loop-v-test.true) _ (rw c.in-End.is at (rw c.value_at-v.ensures at c.read_type.ensures)) (sym c.part_allowed.ensures ∙ c.if-not-part_allowed.true)
+returns-then-not-part_allowed g t c = parts-refused _ _ _ _ _ _ _ _ c.loop-v.invariant (sym c.part_follows.ensures ∙ c.loop-v-test.true) _ (rw c.in_ok-e.was at (rw c.value_at-v.ensures at c.read_type.ensures)) _ c.part_allowed.ensures c.if-not-part_allowed.true
 
-pub returns-in-Bad : goal.returns-in-Bad
-returns-in-Bad t c = part-bad true _ _ _ _ _ _ _ c.loop-v.invariant (sym c.part_follows.ensures ∙ c.loop-v-test.true) (rw c.in-Bad.is at (rw c.value_at-v.ensures at c.read_type.ensures))
+pub returns-in_err-e : goal.returns-in_err-e
+returns-in_err-e g t c = rw c.from_residual-in_err-e.ensures (parts-bad _ _ _ _ _ _ _ _ c.loop-v.invariant (sym c.part_follows.ensures ∙ c.loop-v-test.true) (rw c.in_err-e.was at (rw c.value_at-v.ensures at c.read_type.ensures)))
 
 pub loop-v-smaller : goal.loop-v-smaller
-loop-v-smaller t c = omega (arith, part-places _ _ _ _ _ c.loop-v.invariant.inside (rw c.in-End.is at (rw c.value_at-v.ensures at c.read_type.ensures)))
+loop-v-smaller g t c = omega (arith, parts-places _ _ _ _ _ _ _ _ c.loop-v.invariant (sym c.part_follows.ensures ∙ c.loop-v-test.true) _ (rw c.in_ok-e.was at (rw c.value_at-v.ensures at c.read_type.ensures)))
 
 pub loop-v-preserved : goal.loop-v-preserved
-loop-v-preserved t c = part-read _ _ _ _ _ _ _ c.loop-v.invariant (sym c.part_follows.ensures ∙ c.loop-v-test.true) _ (rw c.in-End.is at (rw c.value_at-v.ensures at c.read_type.ensures)) (sym c.part_allowed.ensures ∙ c.if-not-part_allowed.false)
+loop-v-preserved g t c = parts-on _ _ _ _ _ _ _ _ c.loop-v.invariant (sym c.part_follows.ensures ∙ c.loop-v-test.true) _ (rw c.in_ok-e.was at (rw c.value_at-v.ensures at c.read_type.ensures)) _ c.part_allowed.ensures c.if-not-part_allowed.false
 
-pub returns : goal.returns
-returns t c = parts-read _ _ _ _ _ _ _ c.loop-v.invariant (sym c.part_follows.ensures ∙ c.loop-v-test.false) _ c.end_of.ensures
+pub returns-in-74 : goal.returns-in-74
+returns-in-74 g t c = end-list _ _ _ _ _ _ _ _ c.loop-v.invariant (sym c.part_follows.ensures ∙ c.loop-v-test.false) c.in-74.is
+
+pub returns-in-79 : goal.returns-in-79
+returns-in-79 g t c = parts-few _ _ _ _ _ _ _ _ c.loop-v.invariant (sym c.part_follows.ensures ∙ c.loop-v-test.false) c.in-79.is (sym c.is_enough.ensures ∙ c.if-not-is_enough.true)
+
+pub returns-in_default : goal.returns-in_default
+returns-in_default g t c =
+    elim c.in_default.branch [
+      | in_default-via-in-79+else-not-is_enough w ↦ end-closed _ _ _ _ _ _ _ _ c.loop-v.invariant (sym c.part_follows.ensures ∙ c.loop-v-test.false) (λ e. omega arith) (λ z. sym w.is_enough.ensures ∙ w.if-not-is_enough.false)
+      | in_default-via-in_default-1 w ↦ end-closed _ _ _ _ _ _ _ _ c.loop-v.invariant (sym c.part_follows.ensures ∙ c.loop-v-test.false) (λ e. omega arith) (λ z. absurd (omega arith))
+    ]

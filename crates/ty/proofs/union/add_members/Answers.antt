@@ -1,17 +1,17 @@
 use Rattle.ty.proofs.UnionLaws.{add-pending, add-less, add-again, add-members, add-grew}
 use Rattle.ty.proofs.union.add_members.Goals as goal
 
-pub add_next-next-requires : goal.add_next-next-requires
-add_next-next-requires c = add-pending c.requires c.loop-n.invariant c.loop-n-test.true
+pub add_next-rest-requires : goal.add_next-rest-requires
+add_next-rest-requires c = add-pending c.requires c.loop-rest.invariant c.loop-rest-test.true
 
-pub loop-n-smaller : goal.loop-n-smaller
-loop-n-smaller c = add-less c.requires c.loop-n.invariant c.loop-n-test.true c.add_next-next.ensures
+pub loop-rest-smaller : goal.loop-rest-smaller
+loop-rest-smaller c = add-less c.requires c.loop-rest.invariant c.loop-rest-test.true c.add_next-rest.ensures
 
-pub loop-n-preserved : goal.loop-n-preserved
-loop-n-preserved c = add-again c.requires c.loop-n.invariant c.loop-n-test.true c.add_next-next.ensures
+pub loop-rest-preserved : goal.loop-rest-preserved
+loop-rest-preserved c = add-again c.requires c.loop-rest.invariant c.loop-rest-test.true c.add_next-rest.ensures
 
 pub union_size-requires : goal.union_size-requires
-union_size-requires c = add-members c.requires c.loop-n.invariant c.loop-n-test.false
+union_size-requires c = add-members c.requires c.loop-rest.invariant c.loop-rest-test.false
 
 pub returns : goal.returns
-returns c = add-grew c.requires c.loop-n.invariant c.loop-n-test.false c.union_size.ensures
+returns c = add-grew c.requires c.loop-rest.invariant c.loop-rest-test.false c.union_size.ensures

@@ -32,11 +32,11 @@ loop-q-smaller c = omega (arith, place_end c.requires c.loop-q.invariant c.loop-
 pub loop-q-preserved : goal.loop-q-preserved
 loop-q-preserved c = record { below = (place_end c.requires c.loop-q.invariant c.loop-q-test.true c.type_end-e.ensures).1; reached = λ ms x f g. more-on (reached-more f (c.loop-q.invariant.reached ms x f g) c.loop-q-test.true) g c.type_end-e.ensures (sym c.compare_in.ensures ∙ ap order_of c.in-Less.is) }
 
-pub returns-in-Same : goal.returns-in-Same
-returns-in-Same c = λ ms x f g. more-there (reached-more f (c.loop-q.invariant.reached ms x f g) c.loop-q-test.true) g c.type_end-e.ensures (sym c.compare_in.ensures ∙ ap order_of c.in-Same.is)
+pub returns-in-Equal : goal.returns-in-Equal
+returns-in-Equal c = λ ms x f g. more-there (reached-more f (c.loop-q.invariant.reached ms x f g) c.loop-q-test.true) g c.type_end-e.ensures (sym c.compare_in.ensures ∙ ap order_of c.in-Equal.is)
 
-pub returns-in-More : goal.returns-in-More
-returns-in-More c = λ ms x f g. more-here (reached-more f (c.loop-q.invariant.reached ms x f g) c.loop-q-test.true) g c.type_end-e.ensures (sym c.compare_in.ensures ∙ ap order_of c.in-More.is)
+pub returns-in-Greater : goal.returns-in-Greater
+returns-in-Greater c = λ ms x f g. more-here (reached-more f (c.loop-q.invariant.reached ms x f g) c.loop-q-test.true) g c.type_end-e.ensures (sym c.compare_in.ensures ∙ ap order_of c.in-Greater.is)
 
 pub returns : goal.returns
 returns c = λ ms x f g. reached-end f (c.loop-q.invariant.reached ms x f g) c.loop-q-test.false

@@ -1,10 +1,12 @@
 -- `enter`: what is said is the answer of the call.
 use Rattle.std.proofs.Common.{refl, arith}
-use Rattle.catalogue.specs.Stands.{kept_by}
 use Rattle.semantics.specs.Bytes.{text}
-use Rattle.typestore.proofs.AnswerLaws.{answers}
+use Rattle.typestore.proofs.AnswerLaws.{accepted, refused}
 use Rattle.typestore.proofs.answer.enter.Goals as goal
 
-pub returns : goal.returns
+pub returns-in-Ok : goal.returns-in-Ok
 unfolding text
-returns c = answers _ _ _ _ _ (kept_by c.enter-c.result _) _ 64 c.enter-c.ensures refl c.say.ensures (omega arith)
+returns-in-Ok c = let h = c.numbers_line.ensures.short in accepted _ _ _ _ _ _ _ _ c.in-Ok.ensures refl refl (cc) c.numbers_line.ensures.appended (omega arith)
+
+pub returns-in-Err : goal.returns-in-Err
+returns-in-Err c = refused _ _ _ _ _ _ _ c.in-Err.ensures c.say_refused.ensures

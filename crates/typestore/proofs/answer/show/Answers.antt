@@ -1,15 +1,10 @@
--- `show`: the part of the store that is the line, and what is said of it.
-use Rattle.std.proofs.Common.{refl, arith, ◌-◌, drop, length-drop, length-take-le}
-use Rattle.catalogue.proofs.CallLaws.{looked-part}
-use Rattle.typestore.proofs.AnswerLaws.{answers}
+-- `show`: the line of a live type.
+use Rattle.std.proofs.Common.{refl, arith}
+use Rattle.typestore.proofs.AnswerLaws.{accepted, refused}
 use Rattle.typestore.proofs.answer.show.Goals as goal
 
-pub returns : goal.returns
-returns c =
-    let s = c.args.store.now in
-    let l = c.find_line-l.result in
-    let h = c.find_line-l.ensures.looks in
-    let u = h.up in
-    let i = h.inside in
-    let k = length-take-le (l.end - l.at) (drop l.at s) (omega (arith, length-drop l.at s)) in
-    answers _ _ _ _ _ _ _ _ (looked-part s l _ h.is) refl c.say_line.ensures (omega arith)
+pub returns-in-Ok : goal.returns-in-Ok
+returns-in-Ok c = let h = c.live_line.ensures.1 in let i = c.in-Ok.ensures.inside in accepted _ _ _ _ _ _ _ _ c.in-Ok.ensures.looked refl refl (cc) c.live_line.ensures.0 (omega arith)
+
+pub returns-in-Err : goal.returns-in-Err
+returns-in-Err c = refused _ _ _ _ _ _ _ c.in-Err.ensures.looked c.say_refused.ensures

@@ -1,10 +1,6 @@
--- `lines`: what is listed and the lines of what is left make the whole. The measure is what is left of the live types.
-use Rattle.std.proofs.Common.{◌-◌}
+-- `lines`: what is listed and the lines of what is left make the whole.
 use Rattle.typestore.proofs.ListLaws.{Gone}
 use Rattle.typestore.proofs.list.lines.Given as goal
 
-abbrev pub invariant-loop-at : goal.invariant-loop-at
-invariant-loop-at l = Gone l.store l.end l.initial.out l.out l.at l.fill l.types
-
-abbrev pub decreases-loop-at : goal.decreases-loop-at
-decreases-loop-at l = l.end - l.at
+abbrev pub invariant-loop-entry : goal.invariant-loop-entry
+invariant-loop-entry l = Gone l.store l.end l.initial.out l.out l.entry-iterator l.fill l.types

@@ -1,11 +1,18 @@
-use Rattle.typing.proofs.CheckLaws.{long, accepted, refused}
+use native.Mathlib.Omega.{arith}
+use Rattle.std.proofs.lemmas.Result.{err_from_is_err_and}
+use Rattle.typing.proofs.CheckLaws.{long, accepted, refused-at}
 use Rattle.typing.proofs.checking.check_sheet.Goals as goal
 
 pub returns-then-sheet-gt-SHEET_LIMIT : goal.returns-then-sheet-gt-SHEET_LIMIT
 returns-then-sheet-gt-SHEET_LIMIT c = long _ c.if-sheet-gt-SHEET_LIMIT.true
 
-pub returns-then-o-eq-ACCEPTED : goal.returns-then-o-eq-ACCEPTED
-returns-then-o-eq-ACCEPTED c = accepted _ _ c.if-sheet-gt-SHEET_LIMIT.false c.check_sheet-o.ensures c.if-o-eq-ACCEPTED.true
+pub returns-in_err-check_sheet : goal.returns-in_err-check_sheet
+returns-in_err-check_sheet c =
+    let p = err_from_is_err_and c.from_residual.result c.from_residual.ensures.1 in
+    rw (p.1, p.2) (refused-at _ _ _ c.if-sheet-gt-SHEET_LIMIT.false c.in_err-check_sheet.ensures)
 
 pub returns : goal.returns
-returns c = refused _ _ c.if-sheet-gt-SHEET_LIMIT.false c.check_sheet-o.ensures c.if-o-eq-ACCEPTED.false
+returns c = accepted _ _ c.if-sheet-gt-SHEET_LIMIT.false c.in_ok-check_sheet.ensures
+
+pub check_sheet-requires : goal.check_sheet-requires
+check_sheet-requires c = omega arith

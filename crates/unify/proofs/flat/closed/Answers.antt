@@ -1,15 +1,16 @@
 use native.Mathlib.Omega.{arith}
-use Rattle.unify.proofs.FlatLaws.{closing, closed-short, closed-done, closed-large}
+use Rattle.std.proofs.lemmas.Result.{err_from_is_err_and}
+use Rattle.unify.proofs.Refusals.{was_there, too_large}
+use Rattle.unify.proofs.FlatLaws.{closed-short, closed-done, closed-large}
 use Rattle.unify.proofs.flat.closed.Goals as goal
 
-pub close_union-requires : goal.close_union-requires
-close_union-requires c = closing c.requires
+pub returns-in_err-k : goal.returns-in_err-k
+returns-in_err-k c =
+    let (n, z) = too_large _ c.from_residual.result c.ok_or.ensures.value c.in_err-k.was (err_from_is_err_and _ c.from_residual.ensures.1) in
+    rw z (closed-large _ c.requires _ c.close_union.auto.part c.close_union.ensures n)
 
 pub overflow_add-result : goal.overflow_add-result
-overflow_add-result c = omega (arith, closed-short _ c.requires _ c.close_union.auto.part c.close_union.ensures c.in-Len.is)
+overflow_add-result c = omega (arith, closed-short _ c.requires _ c.close_union.auto.part c.close_union.ensures (was_there _ c.ok_or.ensures.value c.in_ok-k.was))
 
-pub returns-in-Len : goal.returns-in-Len
-returns-in-Len c = closed-done _ c.requires _ c.close_union.auto.part c.close_union.ensures c.in-Len.is
-
-pub returns-in-TooLarge : goal.returns-in-TooLarge
-returns-in-TooLarge c = closed-large _ c.requires _ c.close_union.auto.part c.close_union.ensures c.in-TooLarge.is
+pub returns : goal.returns
+returns c = closed-done _ c.requires _ c.close_union.auto.part c.close_union.ensures (was_there _ c.ok_or.ensures.value c.in_ok-k.was)

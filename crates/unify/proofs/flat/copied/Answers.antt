@@ -1,3 +1,4 @@
+use mathlib.Core.Path.{refl}
 use mathlib.Core.Logic.{inr}
 use native.Mathlib.Omega.{arith}
 use Rattle.unify.proofs.FlatLaws.{operand-room, copied-answer}
@@ -7,4 +8,4 @@ pub copy_in-requires : goal.copy_in-requires
 copy_in-requires c = let r = operand-room c.requires in (omega arith, omega arith, inr (omega arith))
 
 pub returns : goal.returns
-returns c = copied-answer c.requires c.copy_in.ensures
+returns c = copied-answer c.requires refl c.copy_in.ensures

@@ -7,5 +7,5 @@ fits-requires c = made-line c.requires
 pub returns-then-fits : goal.returns-then-fits
 returns-then-fits c = tested-fits _ c.fits.ensures c.if-fits.true
 
-pub returns : goal.returns
-returns c = tested-large _ c.fits.ensures c.if-fits.false
+pub returns-else-fits : goal.returns-else-fits
+returns-else-fits c = tested-large _ c.fits.ensures c.if-fits.false

@@ -1,17 +1,17 @@
-use Rattle.unify.proofs.NullLaws.{opened-null, plain-null, opened-nullable, plain-nullable}
+use Rattle.unify.proofs.NullLaws.{union-long, opened-null, plain-null, opened-nullable, plain-nullable}
 use Rattle.unify.proofs.flat.unify_null.Goals as goal
 
-pub overflow_sub-te-then-work-t-eq-UNION : goal.overflow_sub-te-then-work-t-eq-UNION
-overflow_sub-te-then-work-t-eq-UNION c = (opened-null c.requires c.if-work-t-eq-UNION.true).0
+pub members-requires : goal.members-requires
+members-requires c = union-long c.requires c.if-work-from-eq-UNION.true
 
 pub with_null-requires : goal.with_null-requires
-with_null-requires c = (opened-null c.requires c.if-work-t-eq-UNION.true).1
+with_null-requires c = rw c.members.ensures (opened-null c.requires c.if-work-from-eq-UNION.true)
 
-pub returns-then-work-t-eq-UNION : goal.returns-then-work-t-eq-UNION
-returns-then-work-t-eq-UNION c = opened-nullable c.if-work-t-eq-UNION.true c.with_null.ensures
+pub with_null-requires-else-work-from-eq-UNION : goal.with_null-requires-else-work-from-eq-UNION
+with_null-requires-else-work-from-eq-UNION c = plain-null c.requires c.if-work-from-eq-UNION.false
 
-pub with_null-requires-2 : goal.with_null-requires-2
-with_null-requires-2 c = plain-null c.requires c.if-work-t-eq-UNION.false
+pub returns-then-work-from-eq-UNION : goal.returns-then-work-from-eq-UNION
+returns-then-work-from-eq-UNION c = opened-nullable c.if-work-from-eq-UNION.true (rw c.members.ensures at c.with_null.ensures)
 
-pub returns : goal.returns
-returns c = plain-nullable c.if-work-t-eq-UNION.false c.with_null-2.ensures
+pub returns-else-work-from-eq-UNION : goal.returns-else-work-from-eq-UNION
+returns-else-work-from-eq-UNION c = plain-nullable c.if-work-from-eq-UNION.false c.with_null-else-work-from-eq-UNION.ensures

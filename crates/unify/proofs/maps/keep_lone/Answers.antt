@@ -1,29 +1,29 @@
-use Rattle.unify.proofs.MapLaws.{some-heads, start-inv, turn-entry, turn-taking, turn-less, turn-heads, turn-again, lone}
+use mathlib.Core.Path.{◌≡◌, subst}
+use Rattle.std.specs.Prelude.{Some}
+use Rattle.std.proofs.Common.{rules}
+use Rattle.ty.specs.declared.merging.Side.{Side}
+use Rattle.ty.specs.declared.merging.Side.TheVariants.{Both}
+use Rattle.ty.specs.Merging.{NextIs}
+use Rattle.unify.proofs.MapLaws.{turn-heads, turn-entry, turn-taking, turn-less, turn-again, lone-both, lone-none}
 use Rattle.unify.proofs.maps.keep_lone.Goals as goal
 
-pub next_name-next-requires : goal.next_name-next-requires
-next_name-next-requires c = some-heads c.requires
+pub next_name-requires : goal.next_name-requires
+next_name-requires c = turn-heads c.loop-side.invariant
 
-pub loop-next-init : goal.loop-next-init
-loop-next-init c = start-inv c.requires c.next_name-next.ensures
-
-pub taken-requires : goal.taken-requires
-taken-requires c = tt
+pub returns-then-eq : goal.returns-then-eq
+returns-then-eq c = let e : c.in-Some.side ≡ Both = search rules in lone-both c.loop-side.invariant (subst (λ (x : Side). NextIs c.loop-side.s c.loop-side.m.p c.loop-side.m.q (Some x)) e c.in-Some.ensures)
 
 pub entry_len-k-requires : goal.entry_len-k-requires
-entry_len-k-requires c = turn-entry _ _ _ _ _ _ c.loop-next.invariant c.loop-next-test.true _ c.taken.ensures
+entry_len-k-requires c = let h : c.in-Some.side ≡ Both → ⊥ = search rules in turn-entry c.loop-side.invariant c.in-Some.ensures h _ c.taken.ensures
 
 pub take-m-requires : goal.take-m-requires
-take-m-requires c = turn-taking _ _ _ _ _ _ c.loop-next.invariant c.loop-next-test.true _ _ c.taken.ensures c.entry_len-k.ensures
+take-m-requires c = let h : c.in-Some.side ≡ Both → ⊥ = search rules in turn-taking c.loop-side.invariant c.in-Some.ensures h _ _ c.taken.ensures c.entry_len-k.ensures
 
-pub next_name-next-requires-in-loop-next : goal.next_name-next-requires-in-loop-next
-next_name-next-requires-in-loop-next c = turn-heads _ _ _ _ _ _ c.loop-next.invariant c.loop-next-test.true _ _ c.taken.ensures c.entry_len-k.ensures _ _ c.take-m.ensures.0 c.take-m.ensures.1
+pub loop-side-smaller : goal.loop-side-smaller
+loop-side-smaller c = let h : c.in-Some.side ≡ Both → ⊥ = search rules in turn-less c.loop-side.invariant c.in-Some.ensures h _ _ c.taken.ensures c.entry_len-k.ensures _ _ c.take-m.ensures.0 c.take-m.ensures.1
 
-pub loop-next-smaller : goal.loop-next-smaller
-loop-next-smaller c = turn-less _ _ _ _ _ _ c.loop-next.invariant c.loop-next-test.true _ _ c.taken.ensures c.entry_len-k.ensures _ _ c.take-m.ensures.0 c.take-m.ensures.1
-
-pub loop-next-preserved : goal.loop-next-preserved
-loop-next-preserved c = turn-again _ _ _ _ _ _ c.loop-next.invariant c.loop-next-test.true _ _ c.taken.ensures c.entry_len-k.ensures _ _ c.take-m.ensures.0 c.take-m.ensures.1 _ c.next_name-next-in-loop-next.ensures
+pub loop-side-preserved : goal.loop-side-preserved
+loop-side-preserved c = let h : c.in-Some.side ≡ Both → ⊥ = search rules in turn-again c.loop-side.invariant c.in-Some.ensures h _ _ c.taken.ensures c.entry_len-k.ensures _ _ c.take-m.ensures.0 c.take-m.ensures.1
 
 pub returns : goal.returns
-returns c = lone _ _ _ _ _ _ c.loop-next.invariant c.loop-next-test.false
+returns c = lone-none c.loop-side.invariant c.in_default.ensures

@@ -1,11 +1,11 @@
 use Rattle.unify.proofs.UnionJoins.{widen-again, widened-both, widened-over}
 use Rattle.unify.proofs.unions.widen.Goals as goal
 
-pub add_copy-requires-in-Len : goal.add_copy-requires-in-Len
-add_copy-requires-in-Len c = widen-again c.add_copy.ensures c.requires _ c.in-Len.is
+pub returns-in_err-k : goal.returns-in_err-k
+returns-in_err-k c = rw c.from_residual.ensures (widened-over c.add_copy.ensures c.in_err-k.was)
 
-pub returns-in-Len : goal.returns-in-Len
-returns-in-Len c = widened-both c.add_copy.ensures _ c.in-Len.is c.add_copy-in-Len.ensures
+pub add_copy-requires-2 : goal.add_copy-requires-2
+add_copy-requires-2 c = widen-again c.add_copy.ensures c.requires _ c.in_ok-k.was
 
-pub returns-in-TooLarge : goal.returns-in-TooLarge
-returns-in-TooLarge c = widened-over c.add_copy.ensures c.in-TooLarge.is
+pub returns : goal.returns
+returns c = widened-both c.add_copy.ensures _ c.in_ok-k.was c.add_copy-2.ensures

@@ -1,0 +1,118 @@
+// What a built-in takes and what it returns (`ArgShape` and `ReturnShape` of builtins.rs).
+ghost use Rattle.std.specs.Prelude.{◌≡◌};
+ghost use Rattle.semantics.specs.Builtins.{describe};
+ghost use Rattle.semantics.specs.Ty.{line};
+ghost use Rattle.builtins.specs.Rows.{shape_of, fixed_of, return_of, AcceptsKind, SomeFirst, Resolved};
+
+use ty::{ANY, LIST, MAP, NODE, PATH, RELATIONSHIP, STRING, UNKNOWN};
+
+#[derive(Clone, Copy, Debug, PartialEq, Eq)]
+pub enum ArgShape {
+    Any,
+    List,
+    String,
+    ListOrString,
+    GraphEntity,
+    Map,
+    GraphEntityOrMap,
+}
+
+impl ArgShape {
+    // Whether the types of kind k are permitted; Any and Unknown always are.
+    pub fn accepts(self, k: u8) -> bool
+        ensures { AcceptsKind self k result }
+    {
+        match self {
+            ArgShape::Any => true,
+            ArgShape::List => [LIST, ANY, UNKNOWN].contains(&k),
+            ArgShape::String => [STRING, ANY, UNKNOWN].contains(&k),
+            ArgShape::ListOrString => [LIST, STRING, ANY, UNKNOWN].contains(&k),
+            ArgShape::GraphEntity => [NODE, RELATIONSHIP, PATH, ANY, UNKNOWN].contains(&k),
+            ArgShape::Map => [MAP, ANY, UNKNOWN].contains(&k),
+            ArgShape::GraphEntityOrMap => [NODE, RELATIONSHIP, MAP, ANY, UNKNOWN].contains(&k),
+        }
+    }
+
+    // What was expected, in words.
+    #[tactic(auto, unfolding(semantics::specs::Builtins::describe, semantics::specs::Bytes::text))]
+    pub fn describe(self) -> &'static [u8]
+        ensures { result.now ≡ describe (shape_of self) }
+    {
+        match self {
+            ArgShape::Any => b"Any",
+            ArgShape::List => b"List",
+            ArgShape::String => b"String",
+            ArgShape::ListOrString => b"List | String",
+            ArgShape::GraphEntity => b"Node | Relationship | Path",
+            ArgShape::Map => b"Map",
+            ArgShape::GraphEntityOrMap => b"Node | Relationship | Map",
+        }
+    }
+}
+
+// The types that the table names.
+#[derive(Clone, Copy, Debug, PartialEq, Eq)]
+pub enum FixedTy {
+    Int,
+    ListString,
+    ListAny,
+}
+
+impl FixedTy {
+    // Its type line.
+    #[tactic(auto, unfolding(semantics::specs::Ty::line, semantics::specs::Ty::line_to, semantics::specs::Ty::letter))]
+    fn line(self) -> &'static [u8]
+        ensures { result.now ≡ line (fixed_of self) }
+    {
+        match self {
+            FixedTy::Int => b"D,",
+            FixedTy::ListString => b"J,G,",
+            FixedTy::ListAny => b"J,A,",
+        }
+    }
+}
+
+#[derive(Clone, Copy, Debug, PartialEq, Eq)]
+pub enum ReturnShape {
+    Fixed(FixedTy),
+    ListElement,
+    ListSelf,
+}
+
+impl ReturnShape {
+    // The return type at the front, where [0..len) is the first argument's type, or nothing.
+    pub fn resolve(self, part: &mut [u8], len: usize) -> usize
+        requires { SomeFirst part.old len }
+        ensures { Resolved self part.old part.new len result }
+    {
+        match self {
+            ReturnShape::Fixed(t) => text::append(part, 0, t.line()),
+            ReturnShape::ListElement => list_element(part, len),
+            ReturnShape::ListSelf => list_self(part, len),
+        }
+    }
+}
+
+// The element of the list type [0..len), to the front; Any of another type or none.
+fn list_element(part: &mut [u8], len: usize) -> usize
+    requires { SomeFirst part.old len }
+    ensures { Resolved ReturnShape.ListElement part.old part.new len result }
+{
+    if len > 0 && part[0] == LIST {
+        let n = ty::element(&part[..len]).len();
+        text::copy_in(part, 2, 0, n);
+        return n;
+    }
+    text::append(part, 0, b"A,")
+}
+
+// The list type [0..len) itself; a list of Any of another type or none.
+fn list_self(part: &mut [u8], len: usize) -> usize
+    requires { SomeFirst part.old len }
+    ensures { Resolved ReturnShape.ListSelf part.old part.new len result }
+{
+    if len > 0 && part[0] == LIST {
+        return len;
+    }
+    text::append(part, 0, b"J,A,")
+}

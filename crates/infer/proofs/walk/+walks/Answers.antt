@@ -1,0 +1,148 @@
+-- The walks. Each answer is a law of `WalkCycle`, `WalkPattern` or `WalkEnter` at the facts of its place. Assumes nothing.
+use mathlib.Core.Path.{sym, ◌∙◌}
+use native.Mathlib.Omega.{arith}
+use Rattle.std.proofs.lemmas.Result.{err_from_is_err_and}
+use Rattle.infer.proofs.WalkEnter.{enters, via-ask, via-walked, neither-ask, neither-walked}
+use Rattle.infer.proofs.WalkTable.{expression-class, other-class}
+use Rattle.infer.proofs.WalkInfer.{ok-some, ok-none}
+use Rattle.infer.proofs.WalkCycle.{infer-kids, infer-past, infer-wide, infer-pos, infer-start, infer-inside, infer-len, infer-role, infer-child, infer-stop, infer-halt, infer-step, infer-large, infer-on, infer-finish, infer-typed, infer-untyped, pattern-start, pattern-inside, pattern-line, pattern-todo, pattern-small, pattern-room, pattern-ask, pattern-stop, pattern-down, pattern-on, pattern-kids, pattern-past, pattern-pass, pattern-end, infer-fine, pattern-fine}
+use Rattle.infer.proofs.walk.+walks.Goals as goal
+
+pub check_pattern-loop-todo-init : goal.check_pattern-loop-todo-init
+check_pattern-loop-todo-init t c = pattern-start
+
+pub check_pattern-known_line-g-requires : goal.check_pattern-known_line-g-requires
+check_pattern-known_line-g-requires t c = (pattern-inside c.requires c.loop-todo.invariant, pattern-fine c.requires c.loop-todo.invariant c.loop-todo-test.true)
+
+pub check_pattern-infer_line-requires : goal.check_pattern-infer_line-requires
+check_pattern-infer_line-requires t c = (omega arith, pattern-ask c.requires c.loop-todo.invariant c.loop-todo-test.true _ c.known_line-g.ensures.known (expression-class c.in-Expression.ensures))
+
+pub check_pattern-loop-todo-smaller-in-Expression : goal.check_pattern-loop-todo-smaller-in-Expression
+check_pattern-loop-todo-smaller-in-Expression t c =
+    omega (arith, pattern-line c.requires c.loop-todo.invariant, pattern-down c.requires c.loop-todo.invariant c.loop-todo-test.true _ c.known_line-g.ensures.known (expression-class c.in-Expression.ensures) c.infer_line.ensures c.in_ok-typed-in-Expression.was)
+
+pub check_pattern-loop-todo-preserved-in-Expression : goal.check_pattern-loop-todo-preserved-in-Expression
+check_pattern-loop-todo-preserved-in-Expression t c =
+    pattern-on c.requires c.loop-todo.invariant c.loop-todo-test.true _ c.known_line-g.ensures.known (expression-class c.in-Expression.ensures) c.infer_line.ensures c.in_ok-typed-in-Expression.was
+
+pub check_pattern-returns-in_err-typed-in-Expression : goal.check_pattern-returns-in_err-typed-in-Expression
+check_pattern-returns-in_err-typed-in-Expression t c =
+    let p = err_from_is_err_and c.from_residual.result c.from_residual.ensures.1 in
+    rw (p.1, p.2) (pattern-stop c.requires c.loop-todo.invariant c.loop-todo-test.true _ c.known_line-g.ensures.known (expression-class c.in-Expression.ensures) c.infer_line.ensures _ c.in_err-typed-in-Expression.was)
+
+pub check_pattern-put_letter-requires : goal.check_pattern-put_letter-requires
+check_pattern-put_letter-requires t c = pattern-room c.requires c.loop-todo.invariant
+
+pub check_pattern-returns : goal.check_pattern-returns
+check_pattern-returns t c = pattern-end c.requires c.loop-todo.invariant (omega (arith, c.loop-todo-test.false)) c.put_letter.ensures
+
+pub check_pattern-kids_of-kids-requires : goal.check_pattern-kids_of-kids-requires
+check_pattern-kids_of-kids-requires t c = pattern-kids c.requires c.loop-todo.invariant c.loop-todo-test.true _ c.known_line-g.ensures.known
+
+pub check_pattern-past-c-requires : goal.check_pattern-past-c-requires
+check_pattern-past-c-requires t c = pattern-past c.requires c.loop-todo.invariant c.loop-todo-test.true _ c.known_line-g.ensures.known (other-class c.place_of.ensures c.in_default.not-Expression) c.kids_of-kids.ensures
+
+pub check_pattern-overflow_add-todo : goal.check_pattern-overflow_add-todo
+check_pattern-overflow_add-todo t c = omega (arith, pattern-todo c.requires c.loop-todo.invariant, pattern-small c.requires c.loop-todo.invariant c.loop-todo-test.true _ c.known_line-g.ensures.known c.kids_of-kids.ensures)
+
+pub check_pattern-loop-todo-smaller : goal.check_pattern-loop-todo-smaller
+check_pattern-loop-todo-smaller t c = omega (arith, pattern-line c.requires c.loop-todo.invariant, c.past-c.ensures.1)
+
+pub check_pattern-loop-todo-preserved : goal.check_pattern-loop-todo-preserved
+check_pattern-loop-todo-preserved t c = pattern-pass c.requires c.loop-todo.invariant c.loop-todo-test.true _ c.known_line-g.ensures.known (other-class c.place_of.ensures c.in_default.not-Expression) c.kids_of-kids.ensures _ c.past-c.ensures
+
+pub check_tree-entered-m-requires : goal.check_tree-entered-m-requires
+check_tree-entered-m-requires t c = enters c.requires.at
+
+pub check_tree-infer_line-requires : goal.check_tree-infer_line-requires
+check_tree-infer_line-requires t c = (omega arith, via-ask c.requires c.entered-m.ensures (expression-class c.in-Expression.ensures))
+
+pub check_tree-returns-in-Expression : goal.check_tree-returns-in-Expression
+check_tree-returns-in-Expression t c = via-walked c.entered-m.ensures (expression-class c.in-Expression.ensures) c.infer_line.ensures
+
+pub check_tree-check_pattern-requires : goal.check_tree-check_pattern-requires
+check_tree-check_pattern-requires t c = (omega arith, neither-ask c.entered-m.ensures (other-class c.place_of.ensures c.in_default.not-Expression) c.requires)
+
+pub check_tree-returns-in_default : goal.check_tree-returns-in_default
+check_tree-returns-in_default t c = neither-walked c.entered-m.ensures (other-class c.place_of.ensures c.in_default.not-Expression) c.check_pattern.ensures
+
+pub infer_expr-kids_of-kids-requires : goal.infer_expr-kids_of-kids-requires
+infer_expr-kids_of-kids-requires t c = infer-kids c.requires
+
+pub infer_expr-past-c-requires : goal.infer_expr-past-c-requires
+infer_expr-past-c-requires t c = infer-past c.requires
+
+pub infer_expr-start-st-requires : goal.infer_expr-start-st-requires
+infer_expr-start-st-requires t c = infer-wide c.requires
+
+pub infer_expr-loop-j-init : goal.infer_expr-loop-j-init
+infer_expr-loop-j-init t c = infer-start c.requires c.past-c.ensures c.rule_of-rule.ensures c.start-st.ensures
+
+pub infer_expr-known_line-k-requires : goal.infer_expr-known_line-k-requires
+infer_expr-known_line-k-requires t c = (infer-inside c.requires c.loop-j.invariant c.start-st.ensures.0, infer-fine c.requires c.loop-j.invariant c.start-st.ensures.0 c.kids_of-kids.ensures c.loop-j-test.true)
+
+pub infer_expr-overflow_sub-depth : goal.infer_expr-overflow_sub-depth
+infer_expr-overflow_sub-depth t c = infer-pos c.requires
+
+pub infer_expr-slice_bounds-check_tree-count : goal.infer_expr-slice_bounds-check_tree-count
+infer_expr-slice_bounds-check_tree-count t c = infer-len c.requires c.loop-j.invariant c.start-st.ensures.0
+
+pub infer_expr-slice_bounds-check_tree-start : goal.infer_expr-slice_bounds-check_tree-start
+infer_expr-slice_bounds-check_tree-start t c = omega (arith, infer-len c.requires c.loop-j.invariant c.start-st.ensures.0)
+
+pub infer_expr-slice_bounds-check_tree-end : goal.infer_expr-slice_bounds-check_tree-end
+infer_expr-slice_bounds-check_tree-end t c = omega (arith, infer-len c.requires c.loop-j.invariant c.start-st.ensures.0)
+
+pub infer_expr-check_tree-requires : goal.infer_expr-check_tree-requires
+infer_expr-check_tree-requires t c = (omega (arith, infer-pos c.requires), infer-child c.requires c.loop-j.invariant c.start-st.ensures.0 c.kids_of-kids.ensures c.loop-j-test.true _ c.known_line-k.ensures.known)
+
+pub infer_expr-role_of-role-requires : goal.infer_expr-role_of-role-requires
+infer_expr-role_of-role-requires t c = infer-role c.requires c.loop-j.invariant c.start-st.ensures.0 c.kids_of-kids.ensures c.loop-j-test.true
+
+pub infer_expr-slice_bounds-step-count : goal.infer_expr-slice_bounds-step-count
+infer_expr-slice_bounds-step-count t c = c.spelt-a.ensures.below
+
+pub infer_expr-slice_bounds-step-start : goal.infer_expr-slice_bounds-step-start
+infer_expr-slice_bounds-step-start t c = omega (arith, infer-stop c.requires c.loop-j.invariant c.start-st.ensures.0 c.kids_of-kids.ensures c.loop-j-test.true _ c.known_line-k.ensures.known, c.spelt-a.ensures.below)
+
+pub infer_expr-slice_bounds-step-end : goal.infer_expr-slice_bounds-step-end
+infer_expr-slice_bounds-step-end t c = omega (arith, infer-stop c.requires c.loop-j.invariant c.start-st.ensures.0 c.kids_of-kids.ensures c.loop-j-test.true _ c.known_line-k.ensures.known, c.spelt-a.ensures.below)
+
+pub infer_expr-step-requires : goal.infer_expr-step-requires
+infer_expr-step-requires t c = infer-step c.requires c.loop-j.invariant c.start-st.ensures.0 c.kids_of-kids.ensures c.loop-j-test.true _ c.known_line-k.ensures.known c.check_tree.ensures c.in_ok-child.was c.before_child.ensures c.spelt-a.ensures c.rule_of-rule.ensures c.role_of-role.ensures
+
+pub infer_expr-finish-requires : goal.infer_expr-finish-requires
+infer_expr-finish-requires t c = infer-finish c.requires c.loop-j.invariant c.start-st.ensures.0 c.kids_of-kids.ensures c.loop-j-test.false
+
+pub infer_line-infer_leaf-requires : goal.infer_line-infer_leaf-requires
+infer_line-infer_leaf-requires t c = record { depth = _; ask = c.requires; leaf = c.is_leaf.ensures c.if-is_leaf.true }
+
+pub infer_line-returns-then-is_leaf : goal.infer_line-returns-then-is_leaf
+infer_line-returns-then-is_leaf t c = c.infer_leaf.ensures _
+
+pub infer_expr-returns-in_err-child : goal.infer_expr-returns-in_err-child
+infer_expr-returns-in_err-child t c =
+    let p = err_from_is_err_and c.from_residual.result c.from_residual.ensures.1 in
+    rw (p.1, p.2) (infer-halt c.requires c.loop-j.invariant c.start-st.ensures.0 c.kids_of-kids.ensures c.loop-j-test.true _ c.known_line-k.ensures.known c.check_tree.ensures _ c.in_err-child.was)
+
+pub infer_expr-returns-in_err-stepped : goal.infer_expr-returns-in_err-stepped
+infer_expr-returns-in_err-stepped t c =
+    let p = err_from_is_err_and c.from_residual-in_err-stepped.result c.from_residual-in_err-stepped.ensures.1 in
+    let n = ok-none _ _ _ (sym c.ok_or.ensures.value ∙ c.in_err-stepped.was) in
+    rw (p.1, p.2, n.1) (infer-large c.requires c.loop-j.invariant c.start-st.ensures.0 c.kids_of-kids.ensures c.loop-j-test.true _ c.known_line-k.ensures.known c.check_tree.ensures c.in_ok-child.was c.before_child.ensures c.spelt-a.ensures c.rule_of-rule.ensures c.role_of-role.ensures c.step.ensures n.0)
+
+pub infer_expr-loop-j-preserved : goal.infer_expr-loop-j-preserved
+infer_expr-loop-j-preserved t c =
+    let n = ok-some _ _ _ (sym c.ok_or.ensures.value ∙ c.in_ok-stepped.was) in
+    infer-on c.requires c.loop-j.invariant c.start-st.ensures.0 c.kids_of-kids.ensures c.loop-j-test.true _ c.known_line-k.ensures.known c.check_tree.ensures c.in_ok-child.was c.before_child.ensures c.spelt-a.ensures c.rule_of-rule.ensures c.role_of-role.ensures c.step.ensures n
+
+pub infer_expr-returns-in_err-typed : goal.infer_expr-returns-in_err-typed
+infer_expr-returns-in_err-typed t c =
+    let p = err_from_is_err_and c.from_residual-in_err-typed.result c.from_residual-in_err-typed.ensures.1 in
+    let n = ok-none _ _ _ (sym c.ok_or-2.ensures.value ∙ c.in_err-typed.was) in
+    rw (p.1, p.2, n.1) (infer-untyped c.requires c.loop-j.invariant c.start-st.ensures.0 c.kids_of-kids.ensures c.loop-j-test.false c.finish.ensures n.0)
+
+pub infer_expr-returns : goal.infer_expr-returns
+infer_expr-returns t c =
+    let n = ok-some _ _ _ (sym c.ok_or-2.ensures.value ∙ c.in_ok-typed.was) in
+    infer-typed c.requires c.loop-j.invariant c.start-st.ensures.0 c.kids_of-kids.ensures c.loop-j-test.false c.finish.ensures n

@@ -1,9 +1,0 @@
--- `read_header`: the place stays inside the text. The measure is how many numbers are left.
-use Rattle.std.proofs.Common.{length, ◌-◌, ◌≤◌}
-use Rattle.replay_store.proofs.read_header.Given as goal
-
-abbrev pub invariant-loop-i : goal.invariant-loop-i
-invariant-loop-i l = l.next ≤ length l.src
-
-abbrev pub decreases-loop-i : goal.decreases-loop-i
-decreases-loop-i l = l.count - l.i
