@@ -6,10 +6,10 @@ for path in sorted(glob.glob('crates/*/src/*.rt')):
     crate = path.split('/')[1]
     if crate == 'cyrs_c': continue
     text = open(path).read()
-    for fn in re.split(r'\n(?=(?:pub )?(?:extern "C" )?fn )', text)[1:]:
-        m = re.match(r'(?:pub )?(?:extern "C" )?fn (\w+)', fn)
+    for fn in re.split(r'\n(?= *(?:pub(?:\(crate\))? )?(?:extern "C" )?fn )', text)[1:]:
+        m = re.match(r' *(?:pub(?:\(crate\))? )?(?:extern "C" )?fn (\w+)', fn)
         name = m.group(1)
-        head = fn.split('\n{', 1)[0]
+        head = re.split(r'\n *\{', fn, maxsplit=1)[0]
         sig = re.split(r'\n\s+(?:requires|ensures)', head)[0]
         names = tuple(re.findall(r'(\w+): ', sig))
         for c in re.findall(r'requires(?: \w+)? \{ (.*?) \}(?=\n|$)', head, re.S):

@@ -1,12 +1,14 @@
 -- Laws of the functions, of the search by name, of the shapes, and of the return type at the front. Assumes nothing.
-use Prim.Native.Nat.{ℕ, ◌+◌, ◌≤◌, ◌<◌}
+use Prim.Native.Nat.{ℕ, ◌+◌, ◌≤◌}
 use native.Mathlib.Omega.{arith}
 use mathlib.Core.Path.{◌≡◌, refl, sym, ap, ◌∙◌}
 use mathlib.Core.List.{List, [], ◌∷◌, map}
 use mathlib.Core.Option.{some}
 use mathlib.Core.Bool.{Bool, true, false, false≢true}
-use mathlib.Core.Logic.{◌⊎◌, inl, inr}
+use mathlib.Core.Logic.{inl, inr}
 use lib.Dec.{eqb}
+use Rattle.std.proofs.lemmas.Bool.{eqb-true, eqb-false}
+use Rattle.std.specs.Bool.{then_some}
 use Rattle.std.specs.List.{list_any, find}
 use lib.ListN.{length, take, drop, get_or}
 use lib.Seq.{slice, sets, length-sets, length-slice}
@@ -24,7 +26,8 @@ use Rattle.builtins.specs.declared.shapes.ReturnShape.TheVariants.{ListElement, 
 use Rattle.builtins.specs.declared.Builtin.{Builtin as Code}
 use Rattle.builtins.specs.declared.shapes.FixedTy.{FixedTy}
 use Rattle.builtins.specs.declared.shapes.FixedTy.TheVariants.{Int, ListString, ListAny}
-use Rattle.builtins.specs.Rows.{return_of, fixed_of, builtin_of, found_of, FirstAt, Returned}
+use Rattle.std.specs.Prelude.{Option as Found, Some, None}
+use Rattle.builtins.specs.Rows.{return_of, fixed_of, builtin_of, found_of, FirstAt, Unlisted, ListAt, Returned}
 
 -- ## Names
 
@@ -136,10 +139,6 @@ front-text s x s' r t h e k p q =
     let w : s' ≡ sets s 0 (line t) = q ∙ ap (sets s 0) e in
     rw (r', w) (front-line s t (omega (arith, ap length e)))
 
--- no list type stands at the front
-abbrev pub Unlisted : Bytes → ℕ → Type 0
-Unlisted s n = (n ≡ 0) ⊎ (get_or s 0 0 ≡ 74 → ⊥)
-
 pub list-element : (s : Bytes) (n : ℕ) (t : Ty) → TypeAt s 0 n t → get_or s 0 0 ≡ 74 → (u : Ty) × (t ≡ t_list u) × (slice 2 n s ≡ line u)
 list-element s n t h e = go t (sym (kind_at s 0 n t h) ∙ e) h.is
   where
@@ -155,8 +154,8 @@ list-element s n t h e = go t (sym (kind_at s 0 n t h) ∙ e) h.is
     go (t_union ts) q w = absurd (unfold kind_of in omega arith)
 
 -- what the first argument's type says where no list type stands
-unlisted-type : (s : Bytes) (n : ℕ) (t : Ty) → TypeAt s 0 n t → Unlisted s n → (element_of t ≡ base t_any) × (list_or (t_list (base t_any)) t ≡ t_list (base t_any))
-unlisted-type s n t h (inl e) = absurd (omega (arith, two_at s 0 n t h))
+unlisted-type : (s : Bytes) (n : ℕ) (t : Ty) → TypeAt s 0 n t → Unlisted s (Some n) → (element_of t ≡ base t_any) × (list_or (t_list (base t_any)) t ≡ t_list (base t_any))
+unlisted-type s n t h (inl e) = absurd (let z : ◌≡◌ {A = ℕ} 0 1 = cc in omega arith)
 unlisted-type s n t h (inr d) = go t (λ q. d (kind_at s 0 n t h ∙ q))
   where
     go : (t : Ty) → (kind_of t ≡ 74 → ⊥) → (element_of t ≡ base t_any) × (list_or (t_list (base t_any)) t ≡ t_list (base t_any))
@@ -167,50 +166,64 @@ unlisted-type s n t h (inr d) = go t (λ q. d (kind_at s 0 n t h ∙ q))
     go (t_relationship m) q = unfold element_of list_or in (refl, refl)
     go (t_union ts) q = unfold element_of list_or in (refl, refl)
 
-unlisted : (s : Bytes) (n : ℕ) (ts : List Ty) → FirstAt s n ts → Unlisted s n → (resolve_return list_element ts ≡ base t_any) × (resolve_return list_self ts ≡ t_list (base t_any))
+unlisted : (s : Bytes) (o : Found ℕ) (ts : List Ty) → FirstAt s o ts → Unlisted s o → (resolve_return list_element ts ≡ base t_any) × (resolve_return list_self ts ≡ t_list (base t_any))
 unfolding resolve_return
-unlisted s n [] h u = (refl, refl)
-unlisted s n (t ∷ ts) h u = unlisted-type s n t h u
+unlisted s o [] h u = (refl, refl)
+unlisted s None (t ∷ ts) h u = absurd h
+unlisted s (Some n) (t ∷ ts) h u = unlisted-type s n t h u
+
+-- the list that is the first argument, by the first letter
+pub list-tested : (s : Bytes) {o : Found ℕ} {n : ℕ} → o ≡ Some n → ListAt s o (then_some (eqb (get_or s 0 0) 74) n)
+list-tested s {o} {n} e = go (eqb (get_or s 0 0) 74) refl
+  where
+    go : (b : Bool) → eqb (get_or s 0 0) 74 ≡ b → ListAt s o (then_some b n)
+    go true q = (e, eqb-true (get_or s 0 0) 74 q)
+    go false q = inr (eqb-false (get_or s 0 0) 74 q)
 
 -- what `ty::element` ensures: of a list's line that of its element
 abbrev pub HandsBack : Bytes → Bytes → Type 0
 HandsBack s el = (t : Ty) → s ≡ line (t_list t) → el ≡ line t
 
-pub first-line : (s : Bytes) (n : ℕ) (ts : List Ty) → FirstAt s n ts → 0 < n → get_or s 0 0 ≡ 74 → ListLine (take n s)
-first-line s n [] h p e = absurd (omega arith)
-first-line s n (t ∷ ts) h p e = let (u, w, v) = list-element s n t h e in record { element = u; is = h.is ∙ ap line w }
+pub first-line : (s : Bytes) (n : ℕ) (ts : List Ty) → FirstAt s (Some n) ts → get_or s 0 0 ≡ 74 → ListLine (take n s)
+first-line s n [] h e = absurd h
+first-line s n (t ∷ ts) h e = let (u, w, v) = list-element s n t h e in record { element = u; is = h.is ∙ ap line w }
 
-pub first-long : (s el : Bytes) (n : ℕ) (ts : List Ty) → FirstAt s n ts → 0 < n → get_or s 0 0 ≡ 74 → HandsBack (take n s) el → 2 + length el ≡ n
-first-long s el n [] h p e z = absurd (omega arith)
-first-long s el n (t ∷ ts) h p e z =
+-- it stands inside
+pub first-inside : (s : Bytes) (n : ℕ) (ts : List Ty) → FirstAt s (Some n) ts → n ≤ length s
+first-inside s n [] h = absurd h
+first-inside s n (t ∷ ts) h = h.inside
+
+pub first-long : (s el : Bytes) (n : ℕ) (ts : List Ty) → FirstAt s (Some n) ts → get_or s 0 0 ≡ 74 → HandsBack (take n s) el → 2 + length el ≡ n
+first-long s el n [] h e z = absurd h
+first-long s el n (t ∷ ts) h e z =
     let (u, w, v) = list-element s n t h e in
     omega (arith, ap length (z u (h.is ∙ ap line w)), ap length v, length-slice 2 n s h.inside, two_at s 0 n t h)
 
-pub element-returned : (s s' el : Bytes) (n : ℕ) (ts : List Ty) → FirstAt s n ts → 0 < n → get_or s 0 0 ≡ 74 → HandsBack (take n s) el → s' ≡ sets s 0 (slice 2 (2 + length el) s)
+pub element-returned : (s s' el : Bytes) (n : ℕ) (ts : List Ty) → FirstAt s (Some n) ts → get_or s 0 0 ≡ 74 → HandsBack (take n s) el → s' ≡ sets s 0 (slice 2 (2 + length el) s)
     → Returned s s' (resolve_return (return_of ListElement) ts) (length el)
 unfolding resolve_return element_of
-element-returned s s' el n [] h p e z q = absurd (omega arith)
-element-returned s s' el n (t ∷ ts) h p e z q =
+element-returned s s' el n [] h e z q = absurd h
+element-returned s s' el n (t ∷ ts) h e z q =
     let (u, w, v) = list-element s n t h e in
     let is : el ≡ line u = z u (h.is ∙ ap line w) in
-    let long = first-long s el n (t ∷ ts) h p e z in
+    let long = first-long s el n (t ∷ ts) h e z in
     let x : s' ≡ sets s 0 (line u) = q ∙ ap (λ (k : ℕ). sets s 0 (slice 2 k s)) long ∙ ap (sets s 0) v in
     rw (w, x, is) (front-line s u (omega (arith, long, ap length is, h.inside)))
 
-pub element-other : (s s' : Bytes) (n r : ℕ) (ts : List Ty) → FirstAt s n ts → Unlisted s n → 4 ≤ length s → r ≡ 0 + 2 → s' ≡ sets s 0 (65 ∷ 44 ∷ [])
+pub element-other : (s s' : Bytes) (o : Found ℕ) (r : ℕ) (ts : List Ty) → FirstAt s o ts → Unlisted s o → 4 ≤ length s → r ≡ 0 + 2 → s' ≡ sets s 0 (65 ∷ 44 ∷ [])
     → Returned s s' (resolve_return (return_of ListElement) ts) r
 unfolding line line_to letter
-element-other s s' n r ts h u k e q = rw (unlisted s n ts h u).0 (front-text s (65 ∷ 44 ∷ []) s' r (base t_any) k refl (omega arith) e q)
+element-other s s' o r ts h u k e q = rw (unlisted s o ts h u).0 (front-text s (65 ∷ 44 ∷ []) s' r (base t_any) k refl (omega arith) e q)
 
-pub self-returned : (s : Bytes) (n : ℕ) (ts : List Ty) → FirstAt s n ts → 0 < n → get_or s 0 0 ≡ 74 → Returned s s (resolve_return (return_of ListSelf) ts) n
+pub self-returned : (s : Bytes) (n : ℕ) (ts : List Ty) → FirstAt s (Some n) ts → get_or s 0 0 ≡ 74 → Returned s s (resolve_return (return_of ListSelf) ts) n
 unfolding resolve_return list_or
-self-returned s n [] h p e = absurd (omega arith)
-self-returned s n (t ∷ ts) h p e = let (u, w, v) = list-element s n t h e in rw w (record { at = rw w at h; long = refl })
+self-returned s n [] h e = absurd h
+self-returned s n (t ∷ ts) h e = let (u, w, v) = list-element s n t h e in rw w (record { at = rw w at h; long = refl })
 
-pub self-other : (s s' : Bytes) (n r : ℕ) (ts : List Ty) → FirstAt s n ts → Unlisted s n → 4 ≤ length s → r ≡ 0 + 4 → s' ≡ sets s 0 (74 ∷ 44 ∷ 65 ∷ 44 ∷ [])
+pub self-other : (s s' : Bytes) (o : Found ℕ) (r : ℕ) (ts : List Ty) → FirstAt s o ts → Unlisted s o → 4 ≤ length s → r ≡ 0 + 4 → s' ≡ sets s 0 (74 ∷ 44 ∷ 65 ∷ 44 ∷ [])
     → Returned s s' (resolve_return (return_of ListSelf) ts) r
 unfolding line line_to letter
-self-other s s' n r ts h u k e q = rw (unlisted s n ts h u).1 (front-text s (74 ∷ 44 ∷ 65 ∷ 44 ∷ []) s' r (t_list (base t_any)) k refl (omega arith) e q)
+self-other s s' o r ts h u k e q = rw (unlisted s o ts h u).1 (front-text s (74 ∷ 44 ∷ 65 ∷ 44 ∷ []) s' r (t_list (base t_any)) k refl (omega arith) e q)
 
 pub fixed-short : (t : FixedTy) → length (line (fixed_of t)) ≤ 4
 unfolding line line_to letter

@@ -1,7 +1,8 @@
 -- What the table's values stand for, and what the contracts of builtins cite.
-use Rattle.std.specs.Prelude.{ℕ, ◌≤◌, ◌≡◌, List, [], ◌∷◌, Bool, length}
+use Rattle.std.specs.Prelude.{ℕ, ◌⊎◌, ◌≤◌, ◌≡◌, List, [], ◌∷◌, Bool, length, get_or}
 use Rattle.std.specs.Prelude.{Option as Found, Some, None}
 use Rattle.std.proofs.Math.Option.{Option, none, some}
+use Rattle.semantics.specs.Codes.{list_letter}
 use Rattle.semantics.specs.Bytes.{Bytes}
 use Rattle.semantics.specs.Ty.{t_any, t_int, t_string, Ty, base, t_list}
 use Rattle.semantics.specs.Builtins.{s_any, s_list, s_string, s_list_or_string, s_graph_entity, s_map, s_graph_entity_or_map, fixed, list_element, list_self, builtin_id, builtin_size, builtin_head, builtin_tail, builtin_last, builtin_keys, builtin_values, accepts, resolve_return}
@@ -55,20 +56,30 @@ abbrev pub AcceptsKind : ArgShape → ℕ → Bool → Type 0
 AcceptsKind s k r = (t : Ty) → kind_of t ≡ k → r ≡ accepts (shape_of s) t
 
 -- the first argument's type stands at [0, n), or there is none
-abbrev pub FirstAt : Bytes → ℕ → List Ty → Type 0
-FirstAt s n [] = n ≡ 0
-FirstAt s n (t ∷ ts) = TypeAt s 0 n t
+abbrev pub FirstAt : Bytes → Found ℕ → List Ty → Type 0
+FirstAt s None [] = Unit {0}
+FirstAt s None (t ∷ ts) = ⊥
+FirstAt s (Some n) [] = ⊥
+FirstAt s (Some n) (t ∷ ts) = TypeAt s 0 n t
 
-pub record SomeFirst (s : Bytes) (n : ℕ) : Type 0 where
+pub record SomeFirst (s : Bytes) (o : Found ℕ) : Type 0 where
   pub types : List Ty
-  pub first : FirstAt s n types
+  pub first : FirstAt s o types
   pub room : 4 ≤ length s
-  pub within : n ≤ length s
+
+-- the first argument's type is no list, or there is none
+abbrev pub Unlisted : Bytes → Found ℕ → Type 0
+Unlisted s o = (o ≡ None) ⊎ (get_or s 0 0 ≡ list_letter → ⊥)
+
+-- how long the list is that is the first argument
+abbrev pub ListAt : Bytes → Found ℕ → Found ℕ → Type 0
+ListAt s o None = Unlisted s o
+ListAt s o (Some n) = (o ≡ Some n) × (get_or s 0 0 ≡ list_letter)
 
 -- the return type stands at the front
 pub record Returned (s s' : Bytes) (t : Ty) (r : ℕ) : Type 0 where
   pub at : TypeAt s' 0 r t
   pub long : length s' ≡ length s
 
-abbrev pub Resolved : ReturnShape → Bytes → Bytes → ℕ → ℕ → Type 0
-Resolved ret s s' n r = (ts : List Ty) → FirstAt s n ts → Returned s s' (resolve_return (return_of ret) ts) r
+abbrev pub Resolved : ReturnShape → Bytes → Bytes → Found ℕ → ℕ → Type 0
+Resolved ret s s' o r = (ts : List Ty) → FirstAt s o ts → Returned s s' (resolve_return (return_of ret) ts) r

@@ -2,7 +2,7 @@
 ghost use Rattle.std.specs.Prelude.{◌≡◌};
 ghost use Rattle.semantics.specs.Builtins.{describe};
 ghost use Rattle.semantics.specs.Ty.{line};
-ghost use Rattle.builtins.specs.Rows.{shape_of, fixed_of, return_of, AcceptsKind, SomeFirst, Resolved};
+ghost use Rattle.builtins.specs.Rows.{shape_of, fixed_of, return_of, AcceptsKind, SomeFirst, ListAt, Resolved};
 
 use ty::{ANY, LIST, MAP, NODE, PATH, RELATIONSHIP, STRING, UNKNOWN};
 
@@ -80,39 +80,49 @@ pub enum ReturnShape {
 }
 
 impl ReturnShape {
-    // The return type at the front, where [0..len) is the first argument's type, or nothing.
-    pub fn resolve(self, part: &mut [u8], len: usize) -> usize
-        requires { SomeFirst part.old len }
-        ensures { Resolved self part.old part.new len result }
+    // The return type at the front, where the first argument's type stands, if there is one: so many bytes.
+    // (That it stands there is asked, as the area is that of whoever lends it.)
+    pub fn resolve(self, part: &mut [u8], first: Option<usize>) -> usize
+        requires { SomeFirst part.old first }
+        ensures { Resolved self part.old part.new first result }
     {
         match self {
             ReturnShape::Fixed(t) => text::append(part, 0, t.line()),
-            ReturnShape::ListElement => list_element(part, len),
-            ReturnShape::ListSelf => list_self(part, len),
+            ReturnShape::ListElement => list_element(part, first),
+            ReturnShape::ListSelf => list_self(part, first),
         }
     }
 }
 
-// The element of the list type [0..len), to the front; Any of another type or none.
-fn list_element(part: &mut [u8], len: usize) -> usize
-    requires { SomeFirst part.old len }
-    ensures { Resolved ReturnShape.ListElement part.old part.new len result }
+// How long the first argument's type is, where it is a list.
+fn list_len(part: &[u8], first: Option<usize>) -> Option<usize>
+    requires { SomeFirst part.now first }
+    ensures { ListAt part.now first result }
 {
-    if len > 0 && part[0] == LIST {
-        let n = ty::element(&part[..len]).len();
-        text::copy_in(part, 2, 0, n);
-        return n;
-    }
-    text::append(part, 0, b"A,")
+    let len = first?;
+    (part[0] == LIST).then_some(len)
 }
 
-// The list type [0..len) itself; a list of Any of another type or none.
-fn list_self(part: &mut [u8], len: usize) -> usize
-    requires { SomeFirst part.old len }
-    ensures { Resolved ReturnShape.ListSelf part.old part.new len result }
+// The element of a list type, to the front; Any of another type or none.
+fn list_element(part: &mut [u8], first: Option<usize>) -> usize
+    requires { SomeFirst part.old first }
+    ensures { Resolved ReturnShape.ListElement part.old part.new first result }
 {
-    if len > 0 && part[0] == LIST {
-        return len;
-    }
-    text::append(part, 0, b"J,A,")
+    let Some(len) = list_len(part, first) else {
+        return text::append(part, 0, b"A,");
+    };
+    let n = ty::element(&part[..len]).len();
+    text::copy_in(part, 2, 0, n);
+    n
+}
+
+// The list type itself; a list of Any of another type or none.
+fn list_self(part: &mut [u8], first: Option<usize>) -> usize
+    requires { SomeFirst part.old first }
+    ensures { Resolved ReturnShape.ListSelf part.old part.new first result }
+{
+    let Some(len) = list_len(part, first) else {
+        return text::append(part, 0, b"J,A,");
+    };
+    len
 }

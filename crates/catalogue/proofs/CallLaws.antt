@@ -22,6 +22,8 @@ use Rattle.semantics.specs.Refusals.{number_of}
 use Rattle.semantics.specs.declared.refusals.Refused.{Refused}
 use Rattle.semantics.specs.declared.refusals.Refusal.TheVariants.{WrongSize, NotLive}
 use Rattle.catalogue.specs.declared.Line.{Line}
+use Rattle.catalogue.specs.declared.find.Entries.{Entries}
+use Rattle.catalogue.proofs.PlaceLaws.{Begins, moved}
 use Rattle.catalogue.specs.declared.form.Checked.{Checked}
 use Rattle.catalogue.proofs.Bytewise.{store_is}
 use Rattle.catalogue.proofs.StandLaws.{text-first, number-first, Cut, spot-cut, spot-nowhere, stands_here, open-run, cut_stands}
@@ -127,6 +129,10 @@ no_line s t last end o b e f =
 
 abbrev Finds : (Live → Bool) → Bytes → ℕ → Place ℕ → Type 0
 Finds p s end r = (ls : List Live) → Run s 8 ls end → r ≡ spot_at p 8 ls
+
+-- what a walk over all live types says
+pub found-there : (p : Live → Bool) (it : Entries) (s : Bytes) (end : ℕ) (r : Place ℕ) → Begins it s 8 end → ((ls : List Live) → Run it.store.now it.at ls it.end → r ≡ spot_at p it.at ls) → Finds p s end r
+found-there p it s end r = moved (λ n ls. r ≡ spot_at p n ls) it s 8 end
 
 pub found-cut : (p : Live → Bool) (s : Bytes) (end : ℕ) (o : EndsAt s end) (r : Place ℕ) → Finds p s end r → (a : ℕ) → r ≡ Some a → Cut p 8 o.list.live a
 found-cut p s end o r f a e = let d = known-run s end o in spot-cut p 8 o.list.live a (sym e ∙ f o.list.live d)

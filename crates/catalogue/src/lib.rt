@@ -18,7 +18,7 @@ use find::{find_number, find_text, next_entry};
 pub use form::{Checked, NoStore, check};
 use layout::{AT_LENGTH, AT_USES, ENTRY_HEAD};
 pub use layout::{STORE_HEAD, STORE_SIZE};
-use number::{read_u16, read_u32, write_u16, write_u32};
+use number::{read_u16, read_u32, write};
 use semantics::{Refusal, Refused};
 
 // A type that was entered: its number, and its uses.
@@ -28,24 +28,16 @@ pub struct Entered {
     pub uses: u32,
 }
 
-const USED_UP: Refused = Refused {
-    why: Refusal::CountUsedUp,
-    place: 0,
-};
-
-const NOT_LIVE: Refused = Refused {
-    why: Refusal::NotLive,
-    place: 0,
-};
-
 // One use more of the type at `at`.
 fn enter_old(store: &mut [u8], at: usize) -> Result<Entered, Refused>
     requires { Standing store.old at }
     ensures { (c : Catalogue) (l : Live) → Stands store.old c at l → entered_by result store.new ≡ kept_of (enter_old c l) }
 {
     let number = read_u16(store, at);
-    let uses = read_u32(store, at + AT_USES).checked_add(1).ok_or(USED_UP)?;
-    write_u32(store, at + AT_USES, uses);
+    let uses = read_u32(store, at + AT_USES)
+        .checked_add(1)
+        .ok_or(Refusal::CountUsedUp)?;
+    write(store, at + AT_USES, &uses.to_le_bytes());
     Ok(Entered { number, uses })
 }
 
@@ -54,24 +46,23 @@ fn add(store: &mut [u8], line: &[u8], number: u16, end: usize)
     requires { (store_head ≤ end) × (end + entry_head + length line.now ≤ length store.old) × (length line.now < 65536) }
     ensures { store.new ≡ added store.old line.now number end }
 {
-    let text = end + ENTRY_HEAD;
-    write_u16(store, 0, number);
-    write_u16(store, end, number);
-    write_u16(store, end + AT_LENGTH, line.len() as u16);
-    write_u32(store, end + AT_USES, 1);
-    store[text..text + line.len()].copy_from_slice(line);
+    let given = number.to_le_bytes();
+    // A line has less than 65,536 bytes, so that the cast cuts nothing, and `try_from` would ask for what is known.
+    let long = line.len() as u16;
+    write(store, 0, &given);
+    write(store, end, &given);
+    write(store, end + AT_LENGTH, &long.to_le_bytes());
+    write(store, end + AT_USES, &1u32.to_le_bytes());
+    write(store, end + ENTRY_HEAD, line);
 }
 
 fn enter_new(store: &mut [u8], line: &[u8], checked: Checked) -> Result<Entered, Refused>
     requires { Opened store.old checked.last checked.end }
     ensures { (c : Catalogue) → Open store.old c → checked.last ≡ c.last → checked.end ≡ store_head + taken c.live → entered_by result store.new ≡ kept_of (enter_new c line.now) }
 {
-    let number = checked.last.checked_add(1).ok_or(USED_UP)?;
+    let number = checked.last.checked_add(1).ok_or(Refusal::CountUsedUp)?;
     if store.len() - checked.end < line.len() + ENTRY_HEAD {
-        return Err(Refused {
-            why: Refusal::StoreFull,
-            place: 0,
-        });
+        return Err(Refusal::StoreFull.into());
     }
     add(store, line, number, checked.end);
     Ok(Entered { number, uses: 1 })
@@ -87,7 +78,7 @@ fn enter_line(store: &mut [u8], line: &[u8], checked: Checked) -> Result<Entered
             place: 1,
         });
     }
-    match find_text(store, STORE_HEAD, checked.end, line) {
+    match find_text(Entries::new(store, STORE_HEAD, checked.end), line) {
         Some(at) => enter_old(store, at),
         None => enter_new(store, line, checked),
     }
@@ -109,7 +100,7 @@ fn remove(store: &mut [u8], at: usize, end: usize)
     let next = next_entry(store, at);
     text::copy_in(store, next, at, end - next);
     let behind = at + (end - next);
-    text::clear(&mut store[behind..]);
+    store[behind..].fill(0);
 }
 
 // One use less of the type at `at`: the uses left.
@@ -121,7 +112,7 @@ fn release_at(store: &mut [u8], at: usize, end: usize) -> u32
     if left == 0 {
         remove(store, at, end);
     } else {
-        write_u32(store, at + AT_USES, left);
+        write(store, at + AT_USES, &left.to_le_bytes());
     }
     left
 }
@@ -130,7 +121,7 @@ fn release_number(store: &mut [u8], number: u64, end: usize) -> Result<u32, Refu
     requires { EndsAt store.old end }
     ensures { released_by result store.new ≡ store_call store.old (releasing number) }
 {
-    let at = find_number(store, STORE_HEAD, end, number).ok_or(NOT_LIVE)?;
+    let at = find_number(Entries::new(store, STORE_HEAD, end), number).ok_or(Refusal::NotLive)?;
     Ok(release_at(store, at, end))
 }
 
@@ -166,7 +157,7 @@ fn line_number(store: &[u8], number: u64, end: usize) -> Result<Line, Refused>
     requires { EndsAt store.now end }
     ensures { Looked store.now number result }
 {
-    let at = find_number(store, STORE_HEAD, end, number).ok_or(NOT_LIVE)?;
+    let at = find_number(Entries::new(store, STORE_HEAD, end), number).ok_or(Refusal::NotLive)?;
     Ok(line_at(store, at))
 }
 

@@ -1,4 +1,5 @@
-// The calls as C has them, for Rattle: crates/cyrs_c exports them.
+// The calls as C has them, for Rattle: crates/cyrs_c exports them. C's lengths and places are numbers of 64 bits; those of the calls are
+// cast, since there is no `From` of a `usize` for `u64`.
 #![tactic(auto)]
 
 ghost use Rattle.std.specs.Prelude.{◌≡◌, ◌+◌, ◌≤◌, length};

@@ -1,4 +1,4 @@
--- Unification from either side: the statement (RULES 10.2, ask 7). What is claimed is about `unify_call`: number, returned numbers and every byte
+-- Unification from either side: the statement (RULES 10.2). What is claimed is about `unify_call`: number, returned numbers and every byte
 -- of work area and output.
 use Rattle.std.specs.Prelude.{◌≡◌, ◌++◌, Bool, true, false, ◌&&◌, not, ◌+◌, length, take, drop, eqb, ltb}
 use Rattle.std.proofs.Math.Option.{none, some}

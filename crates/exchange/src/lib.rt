@@ -1,4 +1,4 @@
-// Unification from either side (RULES 10.2, ask 7). The statement is specs/Exchange.antt; this function promises it.
+// Unification from either side (RULES 10.2). The statement is specs/Exchange.antt; this function promises it.
 #![tactic(auto)]
 
 ghost use Rattle.exchange.specs.Exchange.{UnifyExchange};

@@ -13,7 +13,6 @@ use Rattle.ty.specs.Parts.{TypeAt}
 use Rattle.builtins.specs.Rows.{Returned}
 use Rattle.builtins.proofs.Laws.{front-line}
 use Rattle.report.specs.Report.{faults_text}
-use Rattle.report.specs.declared.Tally.{Tally}
 use Rattle.exprs.specs.End.{Puts, Settles}
 
 -- ## A type line at the front
@@ -60,9 +59,9 @@ var-kind {s} {r} e a = subst (λ (k : ℕ). TypeAt s 0 r (kind_type k)) e a
 
 -- ## An end
 
-pub settle : {t : Ty} {s s' : Bytes} {m : Tally} {len : ℕ} → Returned s s' t len → Settles t s s' m (record { len = len; tally = m })
-settle w fs out out' n a = record { answer = (w.at, a); long = w.long; as_long = ap length a.text ∙ length-sets out n.fill (faults_text fs) }
+pub settle : {t : Ty} {s s' : Bytes} {len : ℕ} → Returned s s' t len → Settles t s s' len
+settle w fs r r' a = record { answer = (w.at, a); long = w.long; as_long = ap length a.text ∙ length-sets r.writer.now.out.now r.writer.now.fill (faults_text fs) }
 
-pub settle-bool : {s s' : Bytes} {m : Tally} {len : ℕ} → 2 ≤ length s → Puts (67 ∷ 44 ∷ []) s s' len → Settles (base t_bool) s s' m (record { len = len; tally = m })
+pub settle-bool : {s s' : Bytes} {len : ℕ} → 2 ≤ length s → Puts (67 ∷ 44 ∷ []) s s' len → Settles (base t_bool) s s' len
 unfolding letter
 settle-bool h p = settle (put-base t_bool refl h p)

@@ -11,7 +11,7 @@ use Rattle.semantics.specs.Limits.{type_limit}
 use Rattle.semantics.specs.Bytes.{Bytes}
 use Rattle.semantics.specs.Ty.{Ty, t_list, ∅ᶠ, line, line_to}
 use Rattle.text.proofs.Laws.{take-join, sets-parts}
-use Rattle.ty.specs.Parts.{lines_of, TypeAt}
+use Rattle.ty.specs.Parts.{TypeAt}
 use Rattle.ty.proofs.UnionEnds.{type-long}
 use Rattle.unify_run.proofs.Size.{line-two}
 use Rattle.walk_run.specs.Run.{Kept, empty, over, kept, both, items, last, entries, arms, keep_first, keep_two}
@@ -50,10 +50,6 @@ Is r a b = (r.len ≡ a) × (r.second ≡ b) × (r.over ≡ false)
 pub empty-is : {r : Accumulator} → Is r 0 0 → (s : Bytes) → StAs empty s r
 unfolding text_of place behind full
 empty-is h s = record { len = h.0; second = h.1; over = h.2; front = refl }
-
-pub arms-is : {r : Accumulator} → Is r 0 0 → (s : Bytes) → StAs (arms []) s r
-unfolding text_of place behind full lines_of
-arms-is h s = record { len = h.0; second = h.1; over = h.2; front = refl }
 
 pub list-is : {r : Accumulator} → Is r 2 0 → (s : Bytes) → take 2 s ≡ 74 ∷ 44 ∷ [] → StAs (items none) s r × StAs (last none) s r
 unfolding text_of place behind full

@@ -1,5 +1,5 @@
 -- Where what is kept stands, and the ends that only read it. Assumes nothing.
-use Prim.Native.Nat.{ℕ, ◌+◌, ◌≤◌, ◌<◌}
+use Prim.Native.Nat.{ℕ, ◌+◌, ◌≤◌}
 use native.Mathlib.Omega.{arith}
 use borrow.Author.Tests.{ltb-false}
 use mathlib.Core.Path.{◌≡◌, refl, sym, ap, ◌∙◌, subst}
@@ -8,9 +8,8 @@ use mathlib.Core.Option.{Option, none, some}
 use Rattle.std.specs.declared.option.Option.{Option as Optional}
 use Rattle.std.specs.declared.option.Option.TheVariants.{Some, None}
 use mathlib.Core.Bool.{Bool, true, false, not, false≢true}
-use mathlib.Core.Logic.{inr}
 use lib.ListN.{length, take, drop, get_or, length-take, length-append}
-use lib.Seq.{slice, sets, take-take, take-append_seam, drop-append_seam}
+use lib.Seq.{take-take, take-append_seam, drop-append_seam}
 use Rattle.std.specs.Bool.{then_some}
 use Rattle.semantics.specs.Bytes.{Bytes}
 use Rattle.semantics.specs.Ty.{t_any, Ty, base, t_list, t_map, t_node, t_relationship, t_union, line_to, line, joined, too_large}
@@ -18,19 +17,19 @@ use Rattle.semantics.specs.Builtins.{element_of, list_or, resolve_return}
 use Rattle.ty.specs.Parts.{lines_of, TypeAt, TypeFrom}
 use Rattle.ty.specs.Union.{TypesAt, overlong, Closing, Closed}
 use Rattle.ty.specs.Made.{made}
-use Rattle.ty.specs.Read.{kind_of, ListLine}
-use Rattle.ty.proofs.KindLaws.{two_at, kind_at}
-use Rattle.builtins.specs.Rows.{Returned}
-use Rattle.builtins.proofs.Laws.{list-element, HandsBack, first-line, first-long, element-returned, element-other}
+use Rattle.ty.specs.Read.{kind_of}
+use Rattle.ty.proofs.KindLaws.{kind_at}
+use Rattle.builtins.specs.Rows.{Returned, Resolved, SomeFirst}
+use Rattle.builtins.specs.declared.shapes.ReturnShape.TheVariants.{ListElement}
+use Rattle.builtins.proofs.Laws.{list-element}
 use Rattle.unify_run.specs.Run.{sizes}
 use Rattle.unify_run.proofs.Size.{joined-sizes, line-two}
 use Rattle.walk_run.specs.Run.{Kept, empty, over, kept, both, items, last, entries, arms, Told, told, too_much, end_list, end_case, end_last}
 use Rattle.exprs.specs.State.{text_of, place, behind, full, ArmForm}
 use Rattle.exprs.specs.declared.state.Accumulator.{Accumulator}
-use Rattle.report.specs.declared.Tally.{Tally}
+use Rattle.report.specs.declared.Report.{Report}
 use Rattle.report.proofs.ReportLaws.{adds_none}
-use Rattle.exprs.specs.declared.state.Typed.{Typed}
-use Rattle.exprs.specs.End.{Puts, Ends, EndedAs, KeptAt, SomeArms, SomeLast}
+use Rattle.exprs.specs.End.{Puts, Ends, EndedAs, KeptAt, SomeOne, SomeArms, SomeLast}
 use Rattle.exprs.proofs.Fronts.{put-any, put-anys}
 
 -- ## Lines at the front
@@ -80,26 +79,17 @@ module _ {a b : Ty} {s : Bytes} {st : Accumulator} (k : KeptAt (both a b) s st) 
 
 -- ## The element, and the list itself
 
-module _ {t : Ty} {s : Bytes} {st : Accumulator} (k : KeptAt (kept t) s st) where
-  kept-some : 0 < st.len
-  kept-some = omega (arith, two_at s 0 st.len t (kept_at k))
+-- the first argument of `head`
+pub only-first : {s : Bytes} {st : Accumulator} → SomeOne s st → SomeFirst s (Some st.len)
+only-first p = record { types = p.ty ∷ []; first = kept_at p.at; room = omega (arith, p.at.wide) }
 
-  module _ (e : get_or s 0 0 ≡ 74) where
-    pub element-line : ListLine (take st.len s)
-    element-line = first-line s st.len (t ∷ []) (kept_at k) kept-some e
-
-    module _ {el : Bytes} (z : HandsBack (take st.len s) el) where
-      pub element-long : 2 + length el ≡ st.len
-      element-long = first-long s el st.len (t ∷ []) (kept_at k) kept-some e z
-
-      pub element-list : {s' : Bytes} → s' ≡ sets s 0 (slice 2 (2 + length el) s) → Returned s s' (element_of t) (length el)
-      unfolding resolve_return
-      element-list {s'} q = element-returned s s' el st.len (t ∷ []) (kept_at k) kept-some e z q
-
-  pub element-any : {s' : Bytes} {r : ℕ} → (get_or s 0 0 ≡ 74 → ⊥) → Puts (65 ∷ 44 ∷ []) s s' r → Returned s s' (element_of t) r
+-- its element
+module _ {s s' : Bytes} {st : Accumulator} {r : ℕ} (w : Resolved ListElement s s' (Some st.len) r) where
+  pub element-returned : {t : Ty} → KeptAt (kept t) s st → Returned s s' (element_of t) r
   unfolding resolve_return
-  element-any {s'} {r} d p = element-other s s' st.len r (t ∷ []) (kept_at k) (inr d) (omega (arith, k.wide)) p.end p.text
+  element-returned {t} k = w (t ∷ []) (kept_at k)
 
+module _ {t : Ty} {s : Bytes} {st : Accumulator} (k : KeptAt (kept t) s st) where
   pub slice-list : get_or s 0 0 ≡ 74 → Returned s s (list_or (base t_any) t) st.len
   unfolding list_or
   slice-list e = let (u, w, v) = list-element s st.len t (kept_at k) e in rw w (record { at = rw w at (kept_at k); long = refl })
@@ -198,14 +188,14 @@ case-closing {s} {st} p q =
     record { members = a.members; front = a.at; room = omega (arith, a.short, p.room) }
 
 -- an end that adds nothing
-quiet : {x : Told} {s s' out : Bytes} {n : Tally} {r : Optional Typed} → EndedAs x s' out out n r → length s' ≡ length s → Ends x s s' out out n r
+quiet : {x : Told} {s s' : Bytes} {r : Report} {n : Optional ℕ} → EndedAs x s' r r n → length s' ≡ length s → Ends x s s' r r n
 quiet a l = record { answer = a; long = l; as_long = refl }
 
-pub case-large : {s out : Bytes} {n : Tally} (k : Kept) {st : Accumulator} → ArmForm k → KeptAt k s st → st.over ≡ true → Ends (end_case k) s s out out n None
+pub case-large : {s : Bytes} {r : Report} (k : Kept) {st : Accumulator} → ArmForm k → KeptAt k s st → st.over ≡ true → Ends (end_case k) s s r r None
 case-large k f h q = rw (case-over k f h q) (quiet tt refl)
 
-module _ {s s' out : Bytes} {n : Tally} {st : Accumulator} {r : Optional ℕ} (c : Closed s s' st.len r) (q : st.over ≡ false) (k : Kept) (f : ArmForm k) (h : KeptAt k s st) where
-  pub case-typed : {len : ℕ} → r ≡ Some len → Ends (end_case k) s s' out out n (Some (record { len = len; tally = n }))
+module _ {s s' : Bytes} {y : Report} {st : Accumulator} {r : Optional ℕ} (c : Closed s s' st.len r) (q : st.over ≡ false) (k : Kept) (f : ArmForm k) (h : KeptAt k s st) where
+  case-typed : {len : ℕ} → r ≡ Some len → Ends (end_case k) s s' y y (Some len)
   unfolding end_case
   case-typed {len} e =
       let a = case-arms k f h q in
@@ -213,14 +203,14 @@ module _ {s s' out : Bytes} {n : Tally} {st : Accumulator} {r : Optional ℕ} (c
       rw a.is (quiet (go (too_large (joined a.members)) (sym e ∙ w.answer)) w.text.long)
     where
       go : (b : Bool) → Some len ≡ made b (length (line (joined (case-arms k f h q).members)))
-          → EndedAs (elim b [ true ↦ too_much | false ↦ told (joined (case-arms k f h q).members) [] ]) s' out out n (Some (record { len = len; tally = n }))
+          → EndedAs (elim b [ true ↦ too_much | false ↦ told (joined (case-arms k f h q).members) [] ]) s' y y (Some len)
       go true p = absurd (let z : ◌≡◌ {A = ℕ} 0 1 = cc in omega arith)
       go false p =
           let a = case-arms k f h q in
           let m : len ≡ length (line (joined a.members)) = cc in
           (rw m (c a.members a.at).text.front, adds_none)
 
-  pub case-too-large : r ≡ None → Ends (end_case k) s s' out out n None
+  case-too-large : r ≡ None → Ends (end_case k) s s' y y None
   unfolding end_case
   case-too-large e =
       let a = case-arms k f h q in
@@ -228,9 +218,16 @@ module _ {s s' out : Bytes} {n : Tally} {st : Accumulator} {r : Optional ℕ} (c
       rw a.is (quiet (go (too_large (joined a.members)) (sym e ∙ w.answer)) w.text.long)
     where
       go : (b : Bool) → None ≡ made b (length (line (joined (case-arms k f h q).members)))
-          → EndedAs (elim b [ true ↦ too_much | false ↦ told (joined (case-arms k f h q).members) [] ]) s' out out n None
+          → EndedAs (elim b [ true ↦ too_much | false ↦ told (joined (case-arms k f h q).members) [] ]) s' y y None
       go true p = tt
       go false p = absurd (let z : ◌≡◌ {A = ℕ} 0 1 = cc in omega arith)
+
+  pub case-ends : Ends (end_case k) s s' y y r
+  case-ends = go r refl
+    where
+      go : (o : Optional ℕ) → r ≡ o → Ends (end_case k) s s' y y o
+      go (Some len) e = case-typed e
+      go None e = case-too-large e
 
 -- ## A comprehension
 
@@ -245,26 +242,26 @@ pub last_line : {s : Bytes} {st : Accumulator} → SomeLast s st → TypeFrom (t
 unfolding line
 last_line p = record { ty = t_list p.ty; rest = []; is = (last-at p.at).is }
 
-module _ {s out : Bytes} {n : Tally} {st : Accumulator} (b : Bool) (h : (t : Ty) → take (st.len + st.second) s ≡ line t → b ≡ not (too_large t)) (t : Ty) (k : KeptAt (last (some t)) s st) where
-  last-typed : b ≡ true → Ends (end_last (last (some t))) s s out out n (Some (record { len = st.len + st.second; tally = n }))
+module _ {s : Bytes} {y : Report} {st : Accumulator} (b : Bool) (h : (t : Ty) → take (st.len + st.second) s ≡ line t → b ≡ not (too_large t)) (t : Ty) (k : KeptAt (last (some t)) s st) where
+  last-typed : b ≡ true → Ends (end_last (last (some t))) s s y y (Some (st.len + st.second))
   unfolding end_last
   last-typed e = quiet (go (too_large (t_list t)) (sym e ∙ h (t_list t) (last-at k).is)) refl
     where
-      go : (c : Bool) → true ≡ not c → EndedAs (elim c [ true ↦ too_much | false ↦ told (t_list t) [] ]) s out out n (Some (record { len = st.len + st.second; tally = n }))
+      go : (c : Bool) → true ≡ not c → EndedAs (elim c [ true ↦ too_much | false ↦ told (t_list t) [] ]) s y y (Some (st.len + st.second))
       go true q = absurd (false≢true (sym q))
       go false q = (last-at k, adds_none)
 
-  last-large : b ≡ false → Ends (end_last (last (some t))) s s out out n None
+  last-large : b ≡ false → Ends (end_last (last (some t))) s s y y None
   unfolding end_last
   last-large e = quiet (go (too_large (t_list t)) (sym e ∙ h (t_list t) (last-at k).is)) refl
     where
-      go : (c : Bool) → false ≡ not c → EndedAs (elim c [ true ↦ too_much | false ↦ told (t_list t) [] ]) s out out n None
+      go : (c : Bool) → false ≡ not c → EndedAs (elim c [ true ↦ too_much | false ↦ told (t_list t) [] ]) s y y None
       go true q = tt
       go false q = absurd (false≢true q)
 
-  pub last-ends : Ends (end_last (last (some t))) s s out out n (then_some b (record { len = st.len + st.second; tally = n }))
+  pub last-ends : Ends (end_last (last (some t))) s s y y (then_some b (st.len + st.second))
   last-ends = go b refl
     where
-      go : (c : Bool) → b ≡ c → Ends (end_last (last (some t))) s s out out n (then_some c (record { len = st.len + st.second; tally = n }))
+      go : (c : Bool) → b ≡ c → Ends (end_last (last (some t))) s s y y (then_some c (st.len + st.second))
       go true e = last-typed e
       go false e = last-large e

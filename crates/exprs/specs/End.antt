@@ -13,28 +13,27 @@ use Rattle.builtins.specs.declared.Builtin.{Builtin}
 use Rattle.builtins.specs.Rows.{builtin_of, FirstAt}
 use Rattle.unify.specs.Work.{slots}
 use Rattle.report.specs.Report.{Adds}
-use Rattle.report.specs.declared.Tally.{Tally}
+use Rattle.report.specs.declared.Report.{Report}
 use Rattle.walk_run.specs.Run.{Kept, empty, kept, both, items, last, Told, told, too_much}
 use Rattle.exprs.specs.State.{StAs, FineKept, ArmForm}
 use Rattle.exprs.specs.declared.state.Accumulator.{Accumulator}
-use Rattle.exprs.specs.declared.state.Typed.{Typed}
 
 -- the answer says what is told: the type stands at the front, its faults were added; or it is too large
-abbrev pub EndedAs : Told → Bytes → Bytes → Bytes → Tally → Optional Typed → Type 0
-EndedAs (told t fs) s' out out' n (Some r) = TypeAt s' 0 r.len t × Adds fs out out' n r.tally
-EndedAs (told t fs) s' out out' n None = ⊥
-EndedAs too_much s' out out' n (Some r) = ⊥
-EndedAs too_much s' out out' n None = Unit {0}
+abbrev pub EndedAs : Told → Bytes → Report → Report → Optional ℕ → Type 0
+EndedAs (told t fs) s' r r' (Some n) = TypeAt s' 0 n t × Adds fs r r'
+EndedAs (told t fs) s' r r' None = ⊥
+EndedAs too_much s' r r' (Some n) = ⊥
+EndedAs too_much s' r r' None = Unit {0}
 
-pub record Ends (x : Told) (s s' out out' : Bytes) (n : Tally) (r : Optional Typed) : Type 0 where
-  pub answer : EndedAs x s' out out' n r
+pub record Ends (x : Told) (s s' : Bytes) (r r' : Report) (n : Optional ℕ) : Type 0 where
+  pub answer : EndedAs x s' r r' n
   pub long : length s' ≡ length s
-  pub as_long : length out' ≡ length out
+  pub as_long : length r'.writer.now.out.now ≡ length r.writer.now.out.now
 
 -- the counts can grow by two faults
-pub record Countable (n : Tally) : Type 0 where
-  pub fill : n.fill + 256 < 2 ^ 64
-  pub faults : n.faults + 2 < 2 ^ 64
+pub record Countable (r : Report) : Type 0 where
+  pub fill : r.writer.now.fill + 256 < 2 ^ 64
+  pub faults : r.faults + 2 < 2 ^ 64
 
 -- what is kept stands there, fine, with room for a type
 pub record KeptAt (k : Kept) (s : Bytes) (st : Accumulator) : Type 0 where
@@ -89,9 +88,9 @@ pub record Puts (x s s' : Bytes) (r : ℕ) : Type 0 where
   pub end : r ≡ length x
 
 -- the type t, whatever was added before
-abbrev pub Settles : Ty → Bytes → Bytes → Tally → Typed → Type 0
-Settles t s s' m r = (fs : List Fault) (out out' : Bytes) (n : Tally) → Adds fs out out' n m → Ends (told t fs) s s' out out' n (Some r)
+abbrev pub Settles : Ty → Bytes → Bytes → ℕ → Type 0
+Settles t s s' n = (fs : List Fault) (r r' : Report) → Adds fs r r' → Ends (told t fs) s s' r r' (Some n)
 
 -- the arguments were checked, of which the first stands at the front
-abbrev pub Checked : Builtin → Bytes → ℕ → Bytes → Bytes → Tally → Tally → Type 0
-Checked b s len out out' t t' = (ts : List Ty) → FirstAt s len ts → Adds (arg_faults (builtin_of b) (signature (builtin_of b)).params ts) out out' t t'
+abbrev pub Checked : Builtin → Bytes → Optional ℕ → Report → Report → Type 0
+Checked b s o r r' = (ts : List Ty) → FirstAt s o ts → Adds (arg_faults (builtin_of b) (signature (builtin_of b)).params ts) r r'

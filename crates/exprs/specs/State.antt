@@ -1,5 +1,5 @@
 -- What an expression keeps of its children, as it stands at the front of the work area.
-use Rattle.std.specs.Prelude.{◌≡◌, [], ◌∷◌, ◌++◌, map, Bool, true, false, Some, None, ℕ, ◌+◌, ◌*◌, ◌≤◌, length, take}
+use Rattle.std.specs.Prelude.{◌≡◌, [], ◌∷◌, ◌++◌, map, Bool, true, false, Some, None, ℕ, ◌+◌, ◌*◌, ◌<◌, ◌≤◌, length, take}
 use Rattle.std.specs.declared.option.Option.{Option as Optional}
 use Rattle.std.proofs.Math.Option.{Option, none, some}
 use Rattle.semantics.specs.Limits.{type_limit}
@@ -122,6 +122,11 @@ ArmForm (items e) = ⊥
 ArmForm (last e) = ⊥
 ArmForm (entries fs) = ⊥
 ArmForm (arms ms) = Unit {0}
+
+-- how long the first child's type is, or that none is kept
+abbrev pub FirstKept : ℕ → Optional ℕ → Type 0
+FirstKept len None = len ≡ 0
+FirstKept len (Some n) = (n ≡ len) × (0 < len)
 
 -- a comprehension's `J,` and a child's type of n bytes behind it, in place of the one before
 pub record LastChild (t : Ty) (s : Bytes) (st : Accumulator) (n : ℕ) : Type 0 where

@@ -3,22 +3,24 @@ ghost use Rattle.std.specs.Prelude.{[], ◌≡◌, ◌<◌, get_or, length};
 ghost use Rattle.semantics.specs.Bytes.{Bytes};
 ghost use Rattle.semantics.specs.Sheet.{plain};
 ghost use Rattle.walk_run.specs.Run.{Kept, arms, end_case};
+ghost use Rattle.report.specs.declared.Report.{Report};
 ghost use Rattle.exprs.specs.State.{StAs, ArmForm, SomeArm, ArmKept};
 ghost use Rattle.exprs.specs.End.{Ends, KeptAt, SomeArms};
 ghost use Rattle.exprs.specs.Rules.{child_role, case_row, AnswerKept};
 
 use crate::role::Role;
-use crate::state::{Accumulator, Typed, state};
-use report::Tally;
+use crate::state::{Accumulator, state};
 
 // No answer.
+#[tactic(auto, unfolding(crate::specs::State::text_of, crate::specs::State::place, crate::specs::State::behind, crate::specs::State::full, ty::specs::Parts::lines_of))]
 pub fn start_case() -> Accumulator
     ensures { (s : Bytes) → StAs (arms []) s result }
 {
     state(0, 0)
 }
 
-// The role of the j-th child: a scrutinee by the lowest bit, then conditions and answers in turn, then an answer by the next bit.
+// The role of the j-th child: a scrutinee by the lowest bit, then conditions and answers in turn, then an answer by the next bit. The bits
+// are taken as the definitions take them, from the number that the line says. (No `From` makes a usize of a u64: both casts are of what fits.)
 pub fn case_role(flag: u64, count: u64, j: usize) -> Role
     requires { (count < 65536) × (j < 1048576) }
     ensures { j < length (case_row flag count) → result ≡ child_role (get_or (case_row flag count) j plain) }
@@ -72,13 +74,12 @@ pub fn case_child(role: Role, st: Accumulator, work: &mut [u8], n: usize) -> Acc
 }
 
 // The union of the answers.
-pub fn end_case(st: Accumulator, work: &mut [u8], out: &[u8], tally: Tally) -> Option<Typed>
+pub fn end_case(st: Accumulator, work: &mut [u8]) -> Option<usize>
     requires { SomeArms work.old st }
-    ensures { (k : Kept) → ArmForm k → KeptAt k work.old st → Ends (end_case k) work.old work.new out.now out.now tally result }
+    ensures { (k : Kept) → ArmForm k → KeptAt k work.old st → (r : Report) → Ends (end_case k) work.old work.new r r result }
 {
     if st.over {
         return None;
     }
-    let len = ty::close_union(work, st.len)?;
-    Some(Typed { len, tally })
+    ty::close_union(work, st.len)
 }

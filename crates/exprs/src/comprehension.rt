@@ -6,14 +6,14 @@ ghost use Rattle.semantics.specs.Bytes.{Bytes};
 ghost use Rattle.semantics.specs.Ty.{Ty};
 ghost use Rattle.semantics.specs.Sheet.{Role as ChildRole, plain, condition, present};
 ghost use Rattle.walk_run.specs.Run.{last, end_last};
+ghost use Rattle.report.specs.declared.Report.{Report};
 ghost use Rattle.exprs.specs.State.{StAs, LastChild};
 ghost use Rattle.exprs.specs.End.{Ends, KeptAt, SomeLast};
 ghost use Rattle.exprs.specs.Rules.{child_role};
 
 use crate::list::start_list;
 use crate::role::Role;
-use crate::state::{Accumulator, Typed, state};
-use report::Tally;
+use crate::state::{Accumulator, state};
 
 // `J,`, as for a list.
 pub fn start_comprehension(work: &mut [u8]) -> Accumulator
@@ -23,7 +23,7 @@ pub fn start_comprehension(work: &mut [u8]) -> Accumulator
     start_list(work)
 }
 
-// The role of the j-th child: a first one, a condition by the bit, a last.
+// The role of the j-th child: a first one, as many conditions as the bit says, a last. (No `From` makes a u64 of a usize.)
 pub fn comprehension_role(bit: u64, j: usize) -> Role
     ensures { (p : ChildRole) → child_role p ≡ Role.Plain → bit ≤ 1 → result ≡ child_role (get_or (p ∷ present bit condition (plain ∷ [])) j plain) }
 {
@@ -45,10 +45,10 @@ pub fn comprehension_child(st: Accumulator, n: usize) -> Accumulator
 }
 
 // The list of the last child's type.
-pub fn end_comprehension(st: Accumulator, work: &[u8], out: &[u8], tally: Tally) -> Option<Typed>
+pub fn end_comprehension(st: Accumulator, work: &[u8]) -> Option<usize>
     requires { SomeLast work.now st }
-    ensures { (t : Ty) → KeptAt (last (some t)) work.now st → Ends (end_last (last (some t))) work.now work.now out.now out.now tally result }
+    ensures { (t : Ty) → KeptAt (last (some t)) work.now st → (r : Report) → Ends (end_last (last (some t))) work.now work.now r r result }
 {
     let n = st.len + st.second;
-    ty::fits(&work[..n]).then_some(Typed { len: n, tally })
+    ty::fits(&work[..n]).then_some(n)
 }

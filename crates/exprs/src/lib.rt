@@ -1,5 +1,7 @@
 // Expressions by construct (the arms of `infer_expr`): a module for each construct says what it keeps before its first child, what it
-// does after a child, and its type and faults after the last. Which one serves a line is chosen in `infer`.
+// does after a child, and its type and faults after the last: the length of the type at the front of the work area, and the faults added
+// to the report. Which one serves a line is chosen in `infer`. That a type has room in the work area (`type_limit`) is asked at each, since
+// the area is a slice of no one length (front.rt).
 #![tactic(auto)]
 
 mod call;
@@ -25,5 +27,5 @@ pub use list::{end_list, list_item, start_list};
 pub use map::{map_value, start_map};
 pub use role::Role;
 pub use rule::{Rule, role_of, rule_of};
-pub use state::{Accumulator, Typed, keep_first, keep_two, start_empty};
+pub use state::{Accumulator, keep_first, keep_two, start_empty};
 pub use variable::var_type;

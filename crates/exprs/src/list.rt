@@ -8,9 +8,8 @@ ghost use Rattle.walk_run.specs.Run.{items, last, told, end_list};
 ghost use Rattle.exprs.specs.State.{StAs, Keeps, SomeList, ListKept, Headed, SomeItem, ItemKept};
 ghost use Rattle.exprs.specs.End.{KeptAt, SomeItems};
 
-use crate::front::{put_letter, put_pair};
+use crate::front::{put_field, put_letter, put_pair};
 use crate::state::{Accumulator, state};
-use text::COMMA;
 use ty::{ANY, LIST};
 use unify::{Span, UnifyError};
 
@@ -35,8 +34,7 @@ fn any_items(work: &mut [u8]) -> Accumulator
     requires { Headed work.old }
     ensures { Keeps (some (items (some (base t_any)))) work.old work.new (Some result) }
 {
-    work[2] = ANY;
-    work[3] = COMMA;
+    put_field(work, 2, ANY);
     state(4, 0)
 }
 
@@ -47,6 +45,7 @@ pub fn list_item(st: Accumulator, work: &mut [u8], n: usize) -> Option<Accumulat
 {
     let k = st.len;
     let e = k + n;
+    // (`J,` alone: no item yet.)
     if k == 2 {
         return fitted(work, e);
     }
@@ -65,6 +64,7 @@ pub fn end_list(st: Accumulator, work: &mut [u8]) -> usize
     requires { SomeItems work.old st }
     ensures { (length work.new ≡ length work.old) × ((e : Option Ty) → KeptAt (items e) work.old st → (t : Ty) → end_list (items e) ≡ told t [] → TypeAt work.new 0 result t) }
 {
+    // (`J,` alone.)
     if st.len == 2 {
         return put_pair(work, LIST, ANY);
     }

@@ -3,24 +3,17 @@ ghost use Rattle.std.specs.Prelude.{◌≡◌, false};
 ghost use Rattle.semantics.specs.Bytes.{Bytes};
 ghost use Rattle.semantics.specs.Ty.{Ty};
 ghost use Rattle.walk_run.specs.Run.{Kept, keep_first, empty, kept, both};
-ghost use Rattle.exprs.specs.State.{StAs, ChildAt, FirstForm};
+ghost use Rattle.exprs.specs.State.{StAs, ChildAt, FirstForm, FirstKept};
 ghost use Rattle.exprs.specs.Rules.{TwoKept};
 
-use report::Tally;
-
-// The kept text is `len` long up to where the next child's type goes, and `second` behind that; `over` says that a CASE is too large.
+// The kept text is `len` long up to where the next child's type goes, and `second` behind that; `over` says that a CASE is too large. Which
+// construct it is, the line's rule says (`Rule`): an enum here would say it again, and each function would open what its rule has chosen. A
+// child's type goes to `len` whatever is kept, to 0 where nothing is or a CASE is too large.
 #[derive(Drop)]
 pub struct Accumulator {
     pub len: usize,
     pub second: usize,
     pub over: bool,
-}
-
-// The type of an expression: the first `len` bytes of the work area, and the counts of the output behind its faults.
-#[derive(Drop)]
-pub struct Typed {
-    pub len: usize,
-    pub tally: Tally,
 }
 
 pub fn state(len: usize, second: usize) -> Accumulator
@@ -34,10 +27,18 @@ pub fn state(len: usize, second: usize) -> Accumulator
 }
 
 // Nothing, before the first child.
+#[tactic(auto, unfolding(crate::specs::State::text_of, crate::specs::State::place, crate::specs::State::behind, crate::specs::State::full))]
 pub fn start_empty() -> Accumulator
     ensures { (s : Bytes) → StAs empty s result }
 {
     state(0, 0)
+}
+
+// How long the first child's type is that is kept, if there is one.
+pub fn first_kept(st: Accumulator) -> Option<usize>
+    ensures { FirstKept st.len result }
+{
+    (st.len > 0).then_some(st.len)
 }
 
 // The first child's type stays.

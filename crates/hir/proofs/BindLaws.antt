@@ -20,7 +20,8 @@ use Rattle.line.specs.declared.known.Bound.{Bound}
 use Rattle.line.proofs.LineLaws.{split-some}
 use Rattle.line.proofs.KnownLaws.{same_place}
 use Rattle.hir.specs.Lines.{LineAt, Lines, no_line, a_line, Met, meets, Ascends, no_binding, ascends}
-use Rattle.hir.specs.Bind.{kind_of, BindsAt, StartAs}
+use Rattle.text.specs.Text.{Starts}
+use Rattle.hir.specs.Bind.{kind_of, BindsAt}
 use Rattle.hir.proofs.LinesLaws.{next-line, front-some, bind-var}
 
 -- ## Bytes of a line
@@ -85,26 +86,26 @@ pub record Among (s : Bytes) (lo : ℕ) (hs : List Head) (hi p mid : ℕ) : Type
   pub after : Lines s end right hi
   pub past : mid < end
 
-start_first : {s : Bytes} {lo q : ℕ} {h : Head} → LineAt s lo h q → (mid r : ℕ) → StartAs s lo mid r → mid < q → r ≡ lo
+start_first : {s : Bytes} {lo q : ℕ} {h : Head} → LineAt s lo h q → (mid r : ℕ) → Starts 10 s lo mid r → mid < q → r ≡ lo
 start_first {s} {lo} {q} {h} a mid r b m = go (dec_lt lo r)
   where
     go : Dec (lo < r) → r ≡ lo
     go (yes l) = absurd ((line-bytes s lo q h a).inner (r - 1) (omega arith) (omega (arith, b.upto)) (b.edge l))
-    go (no l) = omega (arith, b.from)
+    go (no l) = omega (arith, b.after)
 
-start-later : {s : Bytes} {lo q : ℕ} {h : Head} → LineAt s lo h q → (mid r : ℕ) → StartAs s lo mid r → q ≤ mid → StartAs s q mid r
-start-later {s} {lo} {q} {h} a mid r b m = record { from = go (dec_lt r q); upto = b.upto; edge = λ l. b.edge (omega (arith, a.on)); none = b.none }
+start-later : {s : Bytes} {lo q : ℕ} {h : Head} → LineAt s lo h q → (mid r : ℕ) → Starts 10 s lo mid r → q ≤ mid → Starts 10 s q mid r
+start-later {s} {lo} {q} {h} a mid r b m = record { after = go (dec_lt r q); upto = b.upto; edge = λ l. b.edge (omega (arith, a.on)); none = b.none }
   where
     go : Dec (r < q) → q ≤ r
     go (yes l) = absurd (b.none (q - 1) (omega arith) (omega (arith, a.on)) (line-bytes s lo q h a).last)
     go (no l) = omega arith
 
-pub among : {s : Bytes} {lo hi : ℕ} {hs : List Head} → Lines s lo hs hi → (mid r : ℕ) → StartAs s lo mid r → mid < hi → Among s lo hs hi r mid
-among {lo = lo} no_line mid r b m = absurd (omega (arith, b.from, b.upto))
+pub among : {s : Bytes} {lo hi : ℕ} {hs : List Head} → Lines s lo hs hi → (mid r : ℕ) → Starts 10 s lo mid r → mid < hi → Among s lo hs hi r mid
+among {lo = lo} no_line mid r b m = absurd (omega (arith, b.after, b.upto))
 among {s = s} {lo = lo} {hi = hi} (a_line {q = q} {h = h} {hs = hs} a x) mid r b m =
     go (λ c. among x mid r c m) (dec_lt mid q)
   where
-    go : (StartAs s q mid r → Among s q hs hi r mid) → Dec (mid < q) → Among s lo (h ∷ hs) hi r mid
+    go : (Starts 10 s q mid r → Among s q hs hi r mid) → Dec (mid < q) → Among s lo (h ∷ hs) hi r mid
     go ih (yes l) =
         let e : r ≡ lo = start_first a mid r b l in
         record { left = []; head = h; right = hs; end = q; same = refl; before = rw e no_line; line = rw e a; after = x; past = l }
@@ -195,7 +196,7 @@ pub find-start : (s : Bytes) (from to v : ℕ) → BindsAt s from to → FindInv
 find-start s from to v q =
     record { inside = q.inside; each = λ b. record { mid = b.heads; low = 0; top = b.top; lines = b.lines; ascending = b.ascending; same = refl } }
 
-module _ (s : Bytes) (v : ℕ) (hs : List Head) (lo hi : ℕ) (f : FindAt s v hs lo hi) (mid r : ℕ) (st : StartAs s lo mid r) (m : mid < hi) where
+module _ (s : Bytes) (v : ℕ) (hs : List Head) (lo hi : ℕ) (f : FindAt s v hs lo hi) (mid r : ℕ) (st : Starts 10 s lo mid r) (m : mid < hi) where
   a : Among s lo f.mid hi r mid
   a = among f.lines mid r st m
 
@@ -242,19 +243,10 @@ module _ (s : Bytes) (v : ℕ) (hs : List Head) (lo hi : ℕ) (f : FindAt s v hs
         }
 
     pub found-on : (lo < k.end + 3) × (k.end + 3 ≤ hi)
-    found-on = (omega (arith, is.next, a.line.on, st.from), omega (arith, is.next, lines-up a.after))
+    found-on = (omega (arith, is.next, a.line.on, st.after), omega (arith, is.next, lines-up a.after))
 
 pub found_none : (s : Bytes) (v : ℕ) (hs : List Head) (lo hi : ℕ) → FindAt s v hs lo hi → hi ≤ lo → 3 ≡ kind_of v hs
 found_none s v hs lo hi f l = sym (f.same ∙ no_lines f.lines l v)
-
--- ## The scan back to a line's start
-
-pub start-on : (s : Bytes) (p mid : ℕ) → ((i : ℕ) → p ≤ i → i < mid → get_or s i 0 ≡ 10 → ⊥) → (get_or s (p - 1) 0 ≡ 10 → ⊥) → (i : ℕ) → p - 1 ≤ i → i < mid → get_or s i 0 ≡ 10 → ⊥
-start-on s p mid n e i l m d = go (dec_lt i p)
-  where
-    go : Dec (i < p) → ⊥
-    go (yes h) = let z : i ≡ p - 1 = omega arith in e (ap (λ (x : ℕ). get_or s x 0) (sym z) ∙ d)
-    go (no h) = n i (omega arith) m d
 
 -- ## The definition's bindings
 

@@ -2,7 +2,8 @@
 use mathlib.Core.Path.{◌≡◌, refl, sym, ◌∙◌, ap}
 use mathlib.Core.List.{List, [], ◌∷◌, ◌++◌, map, append-nil}
 use mathlib.Core.Bool.{Bool, true, false, cond, ◌&&◌}
-use Prim.Native.Nat.{ℕ, suc, zero, ◌+◌, ◌-◌, ◌*◌, ◌≤◌, ◌<◌}
+use Prim.Native.Nat.{ℕ, suc, zero, ◌+◌, ◌-◌, ◌*◌, ◌≤◌, ◌<◌, max}
+use Rattle.std.proofs.Math.Nat.{le-max_left, le-max_right, max-le}
 use native.Mathlib.Numerals.{add-one}
 use native.Mathlib.Omega.{arith}
 use lib.Dec.{eqb, ltb}
@@ -21,16 +22,13 @@ use Rattle.line.specs.declared.line.Head.{Head as Seen}
 use Rattle.line.specs.declared.line.BadLine.{BadLine}
 use Rattle.hir.specs.Run.{Run, stopped, passed, before, carry_on, run, behind, and_go}
 use Rattle.hir.specs.Kids.{second_size, bits, two_groups, kid_wants, level}
-use Rattle.hir.specs.Check.{class_of, Refuses, elsewhere, wrong, deep, pick_p, spot_of, below_of, KidsAs, KidsAsk, FineAs}
+use Rattle.hir.specs.Check.{class_of, Refuses, elsewhere, wrong, deep, pick_p, spot_of, below_of, KidsAs, wants_of, KidsAsk, FineAs}
 use Rattle.hir.specs.declared.valid.Next.{Next}
 use Rattle.hir.specs.declared.valid.Kids.{Kids}
 use Rattle.hir.proofs.RunLaws.{behind-none, behind-append, before-behind, run-append, run_none, behind-passed}
-use Rattle.hir.proofs.PlaceLaws.{line-unfit, line-wrong, line-fit, class-is, kids-of, Under, first_under, second-under, carry-bad, carry-ok}
+use Rattle.hir.proofs.PlaceLaws.{count_small, flag_small, line-unfit, line-wrong, line-fit, class-is, kids-of, Under, first_under, second-under, carry-bad, carry-ok}
 
 -- ## The wants of two groups
-
-abbrev pub wants_of : Kids → ℕ → List Want
-wants_of k d = two_groups k.first (at (place_of k.place1) d) (k.all - k.first) (at (place_of k.place2) d)
 
 abbrev pick_w : Bool → Want → Want → Want
 pick_w true a b = a
@@ -169,14 +167,14 @@ pub record KidsInv (s : Bytes) (k : Kids) (d n p₀ l₀ p l j : ℕ) : Type 0 w
   pub inside : p ≤ length s
   pub above : l ≤ p + 1
 
-pub kids-start : (s : Bytes) (h : Seen) (line depth d : ℕ) (k : Kids) → KidsAsk s h line depth → KidsAs h k → KidsInv s k d k.all h.next line h.next line 0
-kids-start s h line depth d k q a =
+pub kids-start : (s : Bytes) (k : Kids) (from line d : ℕ) → KidsAsk s k from line → KidsInv s k d k.all from line from line 0
+kids-start s k from line d q =
     record {
       upto = omega arith;
       all = refl;
-      part = omega (arith, a.all);
+      part = omega (arith, q.hung.all);
       heads = [];
-      same = sym (behind-none (run (wants_of k d) line (split 10 (drop h.next s))));
+      same = sym (behind-none (run (wants_of k d) line (split 10 (drop from s))));
       on = omega arith;
       inside = q.inside;
       above = q.above;
@@ -255,23 +253,68 @@ level-small c = go (eqb c 13) (eqb c 7)
     go false true = omega arith
     go false false = omega arith
 
-module _ (s : Bytes) (h : Seen) (line depth : ℕ) (ask : KidsAsk s h line depth) (ks : Kids) (a : KidsAs h ks) (n p l j : ℕ)
-    (inv : KidsInv s ks depth n h.next line p l j) where
+-- how far what hangs under a line is from what holds no other: one more than its place, and 0 for an expression, which takes a level
+abbrev place_reach : ℕ → ℕ
+place_reach c = elim (eqb c 13) [ true ↦ 0 | false ↦ suc (level c) ]
+
+abbrev pub reach : Kids → ℕ
+reach k = max (place_reach (rank (place_of k.place1))) (place_reach (rank (place_of k.place2)))
+
+level-below : (c : ℕ) → (c ≡ 13 → ⊥) → level c ≤ 12
+unfolding level
+level-below c other = rw (ne_eqb c 13 other, level) (go (eqb c 7))
+  where
+    go : (b : Bool) → elim b [ true ↦ 0 | false ↦ 12 - c ] ≤ 12
+    go true = omega arith
+    go false = omega arith
+
+place_reach-small : (c : ℕ) → place_reach c ≤ 13
+place_reach-small c = go (eqb c 13) refl
+  where
+    go : (a : Bool) → eqb c 13 ≡ a → elim a [ true ↦ 0 | false ↦ suc (level c) ] ≤ 13
+    go true e = omega arith
+    go false e = omega (arith, level-below c (eqb-false c 13 e))
+
+reach-small : (k : Kids) → reach k ≤ 13
+reach-small k = max-le (place_reach-small (rank (place_of k.place1))) (place_reach-small (rank (place_of k.place2)))
+
+reach_kid : (k : Kids) (j : ℕ) → place_reach (rank (place_of (spot_of k j))) ≤ reach k
+reach_kid k j = go (ltb j k.first)
+  where
+    go : (t : Bool) → place_reach (rank (place_of (pick_p t k.place1 k.place2))) ≤ reach k
+    go true = le-max_left (place_reach (rank (place_of k.place1))) (place_reach (rank (place_of k.place2)))
+    go false = le-max_right (place_reach (rank (place_of k.place1))) (place_reach (rank (place_of k.place2)))
+
+-- what hangs under a line of a place that is other expression's reaches less far
+module _ (c : ℕ) (other : c ≡ 13 → ⊥) where
+  below_place : (g : ℕ) → Under c g → place_reach g < place_reach c
+  below_place g u = rw (ne_eqb c 13 other, place_reach) (go (eqb g 13) refl)
+    where
+      go : (t : Bool) → eqb g 13 ≡ t → elim t [ true ↦ 0 | false ↦ suc (level g) ] < suc (level c)
+      go true e = omega arith
+      go false e = omega (arith, u.falls (eqb-false g 13 e))
+
+reach_falls : (k : Seen) (u : Kids) → KidsAs k u → (c : ℕ) → class_of (Ok k) ≡ c → (c ≡ 13 → ⊥) → reach u < place_reach c
+reach_falls k u a c e other =
+    omega (
+      arith,
+      below_place c other (rank (place_of u.place1)) (rw (a.place1, sym e) (first_under k)),
+      below_place c other (rank (place_of u.place2)) (rw (a.place2, sym e) (second-under k)),
+    )
+
+module _ (s : Bytes) (ks : Kids) (from line depth : ℕ) (ask : KidsAsk s ks from line) (n p l j : ℕ) (inv : KidsInv s ks depth n from line p l j) where
   abbrev whole_run : Run
-  whole_run = kid_run s h depth line
+  whole_run = run (wants_of ks depth) line (split 10 (drop from s))
 
-  runs_as : whole_run ≡ run (wants_of ks depth) line (split 10 (drop h.next s))
-  runs_as = ap (λ (x : List Want). run x line (split 10 (drop h.next s))) (wants-as h ks depth a)
-
-  pub step_end : n ≤ j → FineAs s h.next p l whole_run
-  step_end over = rw runs_as (kids-end s ks depth n h.next line p l j inv over)
+  pub step_end : n ≤ j → FineAs s from p l whole_run
+  step_end over = kids-end s ks depth n from line p l j inv over
 
   module _ (more : j < n) (c : Spot) (ec : c ≡ spot_of ks j) where
-    un : Under (class_of (Ok h)) (rank (place_of c))
-    un = rw ec (kid_under h ks a j)
+    un : Under (class_of (Ok ask.over)) (rank (place_of c))
+    un = rw ec (kid_under ask.over ks ask.hung j)
 
     pub step-stop : (x : Result Seen BadLine) → ReadAs s p x (split 10 (drop p s)) → (why : Refusal) → Refuses x (place_of c) depth why → whole_run ≡ stopped (number_of why) l
-    step-stop x r why f = runs_as ∙ kids-stop s ks depth n h.next line p l j inv more c ec x r why f
+    step-stop x r why f = kids-stop s ks depth n from line p l j inv more c ec x r why f
 
     module _ (k : Seen) (r : ReadAs s p (Ok k) (split 10 (drop p s))) (here : class_of (Ok k) ≡ rank (place_of c)) (dp : rank (place_of c) ≡ 13 → 0 < depth) where
       go : KidGo s p k (place_of c) depth l (drop (j + 1) (wants_of ks depth)) (split 10 (drop p s))
@@ -281,9 +324,9 @@ module _ (s : Bytes) (h : Seen) (line depth : ℕ) (ask : KidsAsk s h line depth
       step_room = omega (arith, ask.room, inv.above, inv.inside)
 
       -- nothing can stand below the line
-      pub step-leaf : (m : ℕ) → m ≡ l + 1 → (row (word_of k.word)).under ≡ nothing → KidsInv s ks depth n h.next line k.next m (j + 1)
+      pub step-leaf : (m : ℕ) → m ≡ l + 1 → (row (word_of k.word)).under ≡ nothing → KidsInv s ks depth n from line k.next m (j + 1)
       step-leaf m em none =
-          kids-on s ks depth n h.next line p l j inv more c ec k go k.next m
+          kids-on s ks depth n from line p l j inv more c ec k go k.next m
           (record {
             heads = [];
             same = ap (λ (x : List Want). run x (suc l) (split 10 (drop k.next s))) (no_kids k (below_of (rank (place_of c)) depth) none)
@@ -293,22 +336,28 @@ module _ (s : Bytes) (h : Seen) (line depth : ℕ) (ask : KidsAsk s h line depth
             above = omega (arith, em, inv.above, go.on);
           })
 
-      module _ (m dep : ℕ) (em : m ≡ l + 1) (ed : dep ≡ below_of (rank (place_of c)) depth) where
-        pub step_falls : 14 * dep + level (class_of (Ok k)) < 14 * depth + level (class_of (Ok h))
+      pub step-small : (k.count ≤ 9999) × (k.flag ≤ 3)
+      step-small = (count_small s k go.head go.is, flag_small s k go.head go.is)
+
+      module _ (under : Kids) (hung : KidsAs k under) (f m dep : ℕ) (ef : f ≡ k.next) (em : m ≡ l + 1) (ed : dep ≡ below_of (rank (place_of c)) depth) where
+        pub step_falls : 14 * dep + reach under < 14 * depth + reach ks
         step_falls = by (eqb (rank (place_of c)) 13) refl ed
           where
-            by : (t : Bool) → eqb (rank (place_of c)) 13 ≡ t → dep ≡ cond t (depth - 1) depth → 14 * dep + level (class_of (Ok k)) < 14 * depth + level (class_of (Ok h))
-            by true e d = omega (arith, d, level-small (class_of (Ok k)), go.deep (eqb-true (rank (place_of c)) 13 e))
-            by false e d = omega (arith, d, ap level go.class, un.falls (eqb-false (rank (place_of c)) 13 e))
+            by : (t : Bool) → eqb (rank (place_of c)) 13 ≡ t → dep ≡ cond t (depth - 1) depth → 14 * dep + reach under < 14 * depth + reach ks
+            by true e d = omega (arith, d, reach-small under, go.deep (eqb-true (rank (place_of c)) 13 e))
+            by false e d = omega (arith, d, reach_falls k under hung (rank (place_of c)) here (eqb-false (rank (place_of c)) 13 e), (rw (sym ec) at (reach_kid ks j)))
 
-        pub step-ask : KidsAsk s k m dep
-        step-ask = record { room = ask.room; head = go.head; is = go.is; inside = go.inside; above = omega (arith, em, inv.above, go.on) }
+        pub step-ask : KidsAsk s under f m
+        step-ask = rw ef (record { room = ask.room; over = k; hung = hung; inside = go.inside; above = omega (arith, em, inv.above, go.on) })
 
-        kid-as : kid_run s k dep m ≡ kid_run s k (below_of (rank (place_of c)) depth) (suc l)
-        kid-as = rw (ed, em ∙ add-one l)
+        abbrev under_run : Run
+        under_run = run (wants_of under dep) m (split 10 (drop f s))
 
-        pub step-refused : (e : Refused) → kid_run s k dep m ≡ stopped (number_of e.why) e.place → whole_run ≡ stopped (number_of e.why) e.place
-        step-refused e f = runs_as ∙ kids-refused s ks depth n h.next line p l j inv more c ec k go (number_of e.why) e.place (sym kid-as ∙ f)
+        kid-as : under_run ≡ kid_run s k (below_of (rank (place_of c)) depth) (suc l)
+        kid-as = rw (ef, sym (wants-as k under dep hung), ed, em ∙ add-one l) refl
 
-        pub step-on : (x : Next) → FineAs s k.next x.at x.line.0 (kid_run s k dep m) → KidsInv s ks depth n h.next line x.at x.line.0 (j + 1)
-        step-on x f = kids-on s ks depth n h.next line p l j inv more c ec k go x.at x.line.0 (rw kid-as at f)
+        pub step-refused : (e : Refused) → under_run ≡ stopped (number_of e.why) e.place → whole_run ≡ stopped (number_of e.why) e.place
+        step-refused e g = kids-refused s ks depth n from line p l j inv more c ec k go (number_of e.why) e.place (sym kid-as ∙ g)
+
+        pub step-on : (x : Next) → FineAs s f x.at x.line.0 under_run → KidsInv s ks depth n from line x.at x.line.0 (j + 1)
+        step-on x g = kids-on s ks depth n from line p l j inv more c ec k go x.at x.line.0 (rw ef at (rw kid-as at g))

@@ -7,11 +7,12 @@ use native.Mathlib.Omega.{arith}
 use lib.Dec.{eqb, leb}
 use borrow.Author.Tests.{leb-true}
 use lib.ListN.{get_or, replicate}
+use lib.Count.{ones}
 use Rattle.semantics.specs.Sheet.{kids, Word, Shape, nothing, one, two, bounds, arms, times, times_then, around, one_then, one_times, Field, Place, expression_place, Role, plain, condition, answer, inner, low, high, present, arm_roles, Want, at, wanted, row}
 use Rattle.semantics.proofs.Words.{holds}
 use Rattle.line.specs.Fields.{number_at}
 use Rattle.line.specs.Line.{most, flag_at, count_at}
-use Rattle.hir.specs.Kids.{role_place, two_groups, kid_wants}
+use Rattle.hir.specs.Kids.{role_place, bits, two_groups, kid_wants}
 
 module _ (d n m : ℕ) (a b : Want) where
   none-kids : n ≡ 0 → m ≡ 0 → [] ≡ two_groups n a m b
@@ -98,6 +99,15 @@ predicate-kids d (suc (suc t)) n m b h e g = absurd (omega arith)
 
 projected-kids : (d k : ℕ) (p : Role) (n m : ℕ) → n ≡ 1 → m ≡ k → map (wanted d) (plain ∷ replicate k p) ≡ two_groups n (at expression_place d) m (wanted d p)
 projected-kids d k p n m e g = rw (e, g) (ap (λ (l : List Want). at expression_place d ∷ l) (map-replicate (wanted d) k p))
+
+-- a flag number has as many bits as the code counts
+pub ones-bits : (f : ℕ) → f ≤ 3 → ones f ≡ bits f
+unfolding ones
+ones-bits zero h = refl
+ones-bits (suc zero) h = refl
+ones-bits (suc (suc zero)) h = refl
+ones-bits (suc (suc (suc zero))) h = refl
+ones-bits (suc (suc (suc (suc f)))) h = absurd (omega arith)
 
 -- ## By shapes
 

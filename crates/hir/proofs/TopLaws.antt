@@ -26,11 +26,12 @@ use Rattle.line.proofs.LineLaws.{split-some}
 use Rattle.hir.specs.Run.{Run, stopped, passed, before, carry_on, at_end, run, behind, and_go, add_all, finish}
 use Rattle.hir.specs.Kids.{kid_wants}
 use Rattle.hir.specs.Lines.{LineAt, Lines, no_line, a_line, Ascends, no_binding, ascends}
-use Rattle.hir.specs.Check.{class_of, Refuses, elsewhere, wrong, deep, FineAs, KidsAsk, TopAsk, BoundAs, GoodAs, EndAs, ClausesAs}
+use Rattle.hir.specs.Check.{class_of, Refuses, elsewhere, wrong, deep, FineAs, KidsAs, wants_of, TopAsk, BoundAs, GoodAs, EndAs, ClausesAs}
 use Rattle.hir.specs.declared.valid.Next.{Next}
-use Rattle.hir.proofs.CheckLaws.{kid_run}
+use Rattle.hir.specs.declared.valid.Kids.{Kids}
+use Rattle.hir.proofs.CheckLaws.{kid_run, wants-as}
 use Rattle.hir.proofs.RunLaws.{behind-none, behind-append, before-behind, run-append, run_none, check-run}
-use Rattle.hir.proofs.PlaceLaws.{Fit, line-unfit, line-wrong, line-fit, class-is, class-said, kids-of, carry-bad, carry-ok}
+use Rattle.hir.proofs.PlaceLaws.{count_small, flag_small, Fit, line-unfit, line-wrong, line-fit, class-is, class-said, kids-of, carry-bad, carry-ok}
 
 -- ## Lines that hold no others
 
@@ -356,21 +357,24 @@ module _ (depth : ℕ) (s : Bytes) (p₀ l₀ p l : ℕ) (i : ClausesInv depth s
         = append-nil (under (clauses depth) h) ∙ rw (after-clause depth h q, kids-of s k h depth fit.is) in
         fit.same ∙ carry-ok l h _ ∙ ap (before h) (ap (λ (w : List Want). run w (suc l) (split 10 (drop k.next s))) u ∙ run-append (split 10 (drop k.next s)) (kid_wants (row (word_of k.word)).under k.count k.flag depth) (clauses depth ∷ []) (suc l))
 
-    module _ (m : ℕ) (em : m ≡ l + 1) where
-      pub clause-ask : KidsAsk s k m depth
-      clause-ask = record { room = i.room; head = fit.head; is = fit.is; inside = fit.inside; above = omega (arith, em, i.above, fit.on) }
+    pub clause-small : (k.count ≤ 9999) × (k.flag ≤ 3)
+    clause-small = (count_small s k fit.head fit.is, flag_small s k fit.head fit.is)
 
-      run-m : kid_run s k depth m ≡ kid_run s k depth (suc l)
-      run-m = ap (kid_run s k depth) (em ∙ add-one l)
+    module _ (under : Kids) (hung : KidsAs k under) (f m : ℕ) (ef : f ≡ k.next) (em : m ≡ l + 1) where
+      abbrev under_run : Run
+      under_run = run (wants_of under depth) m (split 10 (drop f s))
 
-      pub clause-refused : (o : Refused) → kid_run s k depth m ≡ stopped (number_of o.why) o.place → all_clauses ≡ refused (number_of o.why) o.place
+      run-m : under_run ≡ kid_run s k depth (suc l)
+      run-m = rw (ef, sym (wants-as k under depth hung), em ∙ add-one l) refl
+
+      pub clause-refused : (o : Refused) → under_run ≡ stopped (number_of o.why) o.place → all_clauses ≡ refused (number_of o.why) o.place
       unfolding and_go before finish
       clause-refused o g =
           by-run (stopped (number_of o.why) o.place) (into-clause ∙ ap (λ (w : Run). before fit.head (and_go w (λ m ms. run (clauses depth ∷ []) m ms))) (sym run-m ∙ g)) ∙ add-refused i.heads (number_of o.why) o.place
 
-      module _ (x : Next) (got : FineAs s k.next x.at x.line.0 (kid_run s k depth m)) where
+      module _ (x : Next) (got : FineAs s f x.at x.line.0 under_run) where
         pub clause-less : length s - x.at < length s - p
-        clause-less = omega (arith, got.on, got.inside, fit.on)
+        clause-less = omega (arith, got.on, got.inside, fit.on, ef)
 
         pub clause-on : ClausesInv depth s p₀ l₀ x.at x.line.0
         unfolding and_go

@@ -2,19 +2,18 @@
 use Rattle.std.specs.Prelude.{◌≡◌, ◌⊎◌, List, [], ◌∷◌, ◌++◌, Bool, true, false, cond, ℕ, ◌+◌, ◌-◌, ◌≤◌, ◌<◌, eqb, ltb, length, drop, Option, Some, None, Result, Ok, Err}
 use Rattle.semantics.specs.Codes.{line_feed, badly_written, too_deep, expression_rank}
 use Rattle.semantics.specs.Bytes.{Bytes, split}
-use Rattle.semantics.specs.Sheet.{Head, Place, rank, place, row, Shape, clauses, bindings, check, Sheet, heads, refused, sheet}
+use Rattle.semantics.specs.Sheet.{Head, Place, rank, place, row, Shape, Want, at, clauses, bindings, check, Sheet, heads, refused, sheet}
 use Rattle.semantics.specs.Refusals.{number_of}
 use Rattle.semantics.specs.declared.refusals.Refusal.{Refusal}
 use Rattle.semantics.specs.declared.refusals.Refused.{Refused}
 use Rattle.line.specs.Words.{word_of, place_of}
-use Rattle.line.specs.Line.{HeadIs}
 use Rattle.line.specs.declared.words.Word.{Word}
 use Rattle.line.specs.declared.places.Place.{Place as Spot}
 use Rattle.line.specs.declared.line.Head.{Head as Seen}
 use Rattle.line.specs.declared.line.BadLine.{BadLine}
 use Rattle.line.specs.declared.line.HirId.{HirId}
 use Rattle.hir.specs.Run.{Run, stopped, passed, run, behind}
-use Rattle.hir.specs.Kids.{first_size, first_spot, second_size, second_spot, bits}
+use Rattle.hir.specs.Kids.{first_size, first_spot, second_size, second_spot, bits, two_groups}
 use Rattle.hir.specs.declared.valid.Next.{Next}
 use Rattle.hir.specs.declared.valid.Kids.{Kids}
 use Rattle.hir.specs.declared.valid.Outline.{Outline}
@@ -61,6 +60,7 @@ pub record HungAs (u : Shape) (c b : ℕ) (r : Kids) : Type 0 where
   pub all : r.all ≡ r.first + second_size u c b
   pub place1 : place_of r.place1 ≡ first_spot u
   pub place2 : place_of r.place2 ≡ second_spot u
+  pub small : r.all < 131072
 
 abbrev pub KidsAs : Seen → Kids → Type 0
 KidsAs h r = HungAs (row (word_of h.word)).under h.count (bits h.flag) r
@@ -77,13 +77,17 @@ spot_of k j = pick_p (ltb j k.first) k.place1 k.place2
 abbrev pub below_of : ℕ → ℕ → ℕ
 below_of c d = cond (eqb c expression_rank) (d - 1) d
 
--- a line that is fine, with its next line inside the sheet
-pub record KidsAsk (s : Bytes) (h : Seen) (line depth : ℕ) : Type 0 where
+-- what these lines want, with so many levels left
+abbrev pub wants_of : Kids → ℕ → List Want
+wants_of k d = two_groups k.first (at (place_of k.place1) d) (k.all - k.first) (at (place_of k.place2) d)
+
+-- what hangs under a line, of which the first starts inside the sheet, at `from`, and is the line `line`
+pub record KidsAsk (s : Bytes) (k : Kids) (from line : ℕ) : Type 0 where
   pub room : length s < 4294967294
-  pub head : Head
-  pub is : HeadIs s h head
-  pub inside : h.next ≤ length s
-  pub above : line ≤ h.next + 1
+  pub over : Seen
+  pub hung : KidsAs over k
+  pub inside : from ≤ length s
+  pub above : line ≤ from + 1
 
 -- the wants were met from `from` on, and the line `line` starts at `next`
 pub record FineAs (s : Bytes) (from next line : ℕ) (r : Run) : Type 0 where

@@ -2,12 +2,11 @@
 ghost use Rattle.std.specs.Prelude.{◌≡◌, ◌↔◌, ℕ, ◌+◌, ◌≤◌, ◌<◌, length, drop, [], ◌∷◌, IsTrue};
 ghost use Rattle.semantics.specs.Codes.{line_feed, expression_rank};
 ghost use Rattle.semantics.specs.Bytes.{split};
-ghost use Rattle.semantics.specs.Sheet.{bindings, check, rank, row};
+ghost use Rattle.semantics.specs.Sheet.{bindings, check, rank};
 ghost use Rattle.line.specs.declared.places.Place.TheVariants.{Expression};
-ghost use Rattle.line.specs.Words.{word_of, place_of, under_of};
+ghost use Rattle.line.specs.Words.{place_of, under_of};
 ghost use Rattle.hir.specs.Run.{run};
-ghost use Rattle.hir.specs.Kids.{kid_wants};
-ghost use Rattle.hir.specs.Check.{class_of, below_of, spot_of, RefusedAt, HungAs, KidsAs, KidsAsk, AdmitAs, MeetAs, GoodAs, ChecksAs, TopAsk, BindsAs, EndAs, ClausesAs, RestAs, OutlineAs};
+ghost use Rattle.hir.specs.Check.{class_of, below_of, spot_of, RefusedAt, HungAs, KidsAs, KidsAsk, wants_of, AdmitAs, MeetAs, GoodAs, ChecksAs, TopAsk, BindsAs, EndAs, ClausesAs, RestAs, OutlineAs};
 
 use line::{BadLine, Head, HirId, Place, Under, is_leaf, place_of, read_line, row_of};
 use semantics::{Refusal, Refused};
@@ -17,6 +16,20 @@ use semantics::{Refusal, Refused};
 pub struct Next {
     pub at: usize,
     pub line: HirId,
+}
+
+impl Next {
+    // The next one behind this line, which was read.
+    #[inline(always)]
+    pub fn past(self, head: Head) -> Next
+        requires { self.line.0 < 4294967295 }
+        ensures { (result.at ≡ head.next) × (result.line.0 ≡ self.line.0 + 1) }
+    {
+        Next {
+            at: head.next,
+            line: next_line(self.line),
+        }
+    }
 }
 
 // What stands right below a line: so many lines of a place, and up to `all` of another.
@@ -38,24 +51,12 @@ fn refused(why: Refusal, line: HirId) -> Refused
     }
 }
 
-// The next line's number.
+// The next line's number. (Each line takes one, so that there is one more is asked of whoever steps on, and no invariant.)
 pub fn next_line(l: HirId) -> HirId
     requires { l.0 < 4294967295 }
     ensures { result.0 ≡ l.0 + 1 }
 {
     HirId(l.0 + 1)
-}
-
-// The line behind one that was read.
-fn behind(head: Head, line: HirId) -> Next
-    requires { line.0 < 4294967295 }
-    ensures { (result.at ≡ head.next) × (result.line.0 ≡ line.0 + 1) }
-{
-    let line = next_line(line);
-    Next {
-        at: head.next,
-        line,
-    }
 }
 
 // So many lines of one place, and of none other.
@@ -108,13 +109,15 @@ fn hung(under: Under, count: usize, bits: usize) -> Kids
     }
 }
 
-// What stands right below this line.
+// What stands right below this line: a flag number has two bits, a count is at most 9,999, so both
+// fit. (No `From` makes a usize of a u64 or u32.)
+#[inline(always)]
 pub fn kids_of(h: Head) -> Kids
     requires { (h.count ≤ 9999) × (h.flag ≤ 3) }
     ensures { KidsAs h result }
 {
-    let flag = h.flag as usize;
-    hung(row_of(h.word).under, h.count as usize, flag % 2 + flag / 2)
+    let bits = h.flag.count_ones();
+    hung(row_of(h.word).under, h.count as usize, bits as usize)
 }
 
 // The place of the j-th line below.
@@ -125,6 +128,7 @@ fn kid_place(k: Kids, j: usize) -> Place
 }
 
 // Whether the word of a line belongs at a place.
+#[inline(always)]
 fn is_at(line: Result<Head, BadLine>, place: Place) -> bool
     ensures { IsTrue result ↔ (class_of line ≡ rank (place_of place)) }
 {
@@ -138,6 +142,7 @@ fn is_at(line: Result<Head, BadLine>, place: Place) -> bool
 }
 
 // A line at a place, with so many levels of depth left.
+#[inline(always)]
 fn admit(line: Result<Head, BadLine>, place: Place, depth: usize) -> Result<Head, Refusal>
     ensures { AdmitAs line (place_of place) depth result }
 {
@@ -157,6 +162,7 @@ fn admit(line: Result<Head, BadLine>, place: Place, depth: usize) -> Result<Head
 }
 
 // The same for a line of this number.
+#[inline(always)]
 fn meet(line: Result<Head, BadLine>, at: HirId, place: Place, depth: usize) -> Result<Head, Refused>
     ensures { MeetAs line at (place_of place) depth result }
 {
@@ -175,22 +181,21 @@ fn below(place: Place, depth: usize) -> usize
     }
 }
 
-// The lines below this one, and all below those, from its next line on.
-pub fn check_kids(sheet: &[u8], h: Head, line: HirId, depth: usize) -> Result<Next, Refused>
-    requires { KidsAsk sheet.now h line.0 depth }
-    ensures { ChecksAs sheet.now h.next result (run (kid_wants (row (word_of h.word)).under h.count h.flag depth) line.0 (split line_feed (drop h.next sheet.now))) }
+// The lines that hang below one, and all below those, from `next` on.
+fn check_kids(sheet: &[u8], kids: Kids, next: Next, depth: usize) -> Result<Next, Refused>
+    requires { KidsAsk sheet.now kids next.at next.line.0 }
+    ensures { ChecksAs sheet.now next.at result (run (wants_of kids depth) next.line.0 (split line_feed (drop next.at sheet.now))) }
 {
-    let kids = kids_of(h);
-    let mut next = Next { at: h.next, line };
+    let mut next = next;
     for j in 0..kids.all {
         let place = kid_place(kids, j);
         let line = read_line(sheet, next.at);
         let kid = meet(line, next.line, place, depth)?;
-        let under = behind(kid, next.line);
+        let under = next.past(kid);
         if is_leaf(kid.word) {
             next = under;
         } else {
-            next = check_kids(sheet, kid, under.line, below(place, depth))?;
+            next = check_kids(sheet, kids_of(kid), under, below(place, depth))?;
         }
     }
     Ok(next)
@@ -203,12 +208,12 @@ fn good(line: Result<Head, BadLine>, at: HirId) -> Result<Head, Refused>
     line.map_err(|bad| refused(bad.why, at))
 }
 
-// The `b` lines from `at` on, their variables ascending: where they end.
-fn check_binds(sheet: &[u8], at: usize, line: HirId) -> Result<Next, Refused>
-    requires { TopAsk sheet.now at line.0 }
-    ensures { BindsAs sheet.now at line.0 result }
+// The `b` lines from `next` on, their variables ascending: where they end.
+fn check_binds(sheet: &[u8], next: Next) -> Result<Next, Refused>
+    requires { TopAsk sheet.now next.at next.line.0 }
+    ensures { BindsAs sheet.now next.at next.line.0 result }
 {
-    let mut next = Next { at, line };
+    let mut next = next;
     let mut least: u64 = 0;
     loop {
         let line = read_line(sheet, next.at);
@@ -221,7 +226,7 @@ fn check_binds(sheet: &[u8], at: usize, line: HirId) -> Result<Next, Refused>
             return Err(refused(Refusal::BadlyWritten, next.line));
         }
         least = var + 1;
-        next = behind(head, next.line);
+        next = next.past(head);
     }
 }
 
@@ -237,19 +242,19 @@ fn check_end(line: Result<Head, BadLine>, at: HirId, len: usize) -> Result<(), R
     Ok(())
 }
 
-// The clauses from `at` on, and the `end` line.
-fn check_clauses(sheet: &[u8], at: usize, line: HirId, depth: usize) -> Result<(), Refused>
-    requires { TopAsk sheet.now at line.0 }
-    ensures { ClausesAs depth sheet.now at line.0 result }
+// The clauses from `next` on, and the `end` line.
+fn check_clauses(sheet: &[u8], next: Next, depth: usize) -> Result<(), Refused>
+    requires { TopAsk sheet.now next.at next.line.0 }
+    ensures { ClausesAs depth sheet.now next.at next.line.0 result }
 {
-    let mut next = Next { at, line };
+    let mut next = next;
     loop {
         let line = read_line(sheet, next.at);
         if is_at(line, Place::End) {
             return check_end(line, next.line, sheet.len());
         }
         let clause = meet(line, next.line, Place::Clause, depth)?;
-        next = check_kids(sheet, clause, next_line(next.line), depth)?;
+        next = check_kids(sheet, kids_of(clause), next.past(clause), depth)?;
     }
 }
 
@@ -266,8 +271,12 @@ fn check_rest(sheet: &[u8], from: usize, depth: usize) -> Result<Outline, Refuse
     requires { TopAsk sheet.now from 2 }
     ensures { RestAs depth sheet.now from result (check (bindings 0 depth ∷ []) 2 (split line_feed (drop from sheet.now))) }
 {
-    let next = check_binds(sheet, from, HirId(2))?;
-    check_clauses(sheet, next.at, next.line, depth)?;
+    let binds = Next {
+        at: from,
+        line: HirId(2),
+    };
+    let next = check_binds(sheet, binds)?;
+    check_clauses(sheet, next, depth)?;
     Ok(Outline {
         line: next.line,
         from,

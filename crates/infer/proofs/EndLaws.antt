@@ -6,11 +6,11 @@ use mathlib.Core.Logic.{◌⊎◌, inl, inr}
 use Rattle.std.specs.declared.option.Option.{Option as Optional}
 use Rattle.std.specs.declared.option.Option.TheVariants.{Some}
 use mathlib.Core.Bool.{Bool, true, false, ◌&&◌}
-use Prim.Native.Nat.{ℕ, suc, zero, ◌≤◌}
+use Prim.Native.Nat.{ℕ}
 use native.Mathlib.Omega.{arith}
 use lib.Dec.{eqb, leb}
-use lib.ListN.{length, take, drop, length-take}
-use lib.Seq.{slice, slice_empty}
+use lib.ListN.{length, take, length-take}
+use lib.Seq.{slice}
 use Rattle.semantics.specs.Bytes.{Bytes, hex, unhex, split, decimal}
 use Rattle.semantics.specs.Limits.{variable_limit}
 use Rattle.semantics.specs.Ty.{t_any, Ty, base, t_list, t_map, Fields, ∅ᶠ, line}
@@ -30,31 +30,20 @@ use Rattle.hir.specs.Bind.{BindsAt}
 use Rattle.hir.specs.Bind.{kind_of as bind_kind}
 use Rattle.ty.specs.Parts.{TypeAt}
 use Rattle.builtins.specs.Rows.{Returned}
-use Rattle.report.specs.declared.Tally.{Tally}
+use Rattle.report.specs.declared.Report.{Report}
 use Rattle.report.proofs.ReportLaws.{adds_none}
 use Rattle.walk_run.specs.Run.{Kept, empty, over, kept, both, items, last, entries, arms, Told, told, first_of, second_of, args_of, end_op, end_in, end_list, end_map, end_case, end_last, end}
 use Rattle.exprs.specs.State.{text_of, place, ArmForm}
 use Rattle.exprs.specs.declared.state.Accumulator.{Accumulator}
 use Rattle.exprs.specs.End.{Ends, Countable, KeptAt, TwoAt, SomeTwo, SomeOne, arg_kept, SomeArg, SomeItems, SomeArms, SomeLast}
-use Rattle.exprs.specs.declared.state.Typed.{Typed}
 use Rattle.exprs.specs.declared.rule.Rule.{Rule}
 use Rattle.exprs.specs.declared.rule.Rule.TheVariants.{Constant, Variable, Element, Slice, Listing, Mapping, Call, Operator, Unary, Casing, Membership, Comprehension, Silent, Entry}
 use Rattle.exprs.specs.Rules.{typing_rule, line_rule, ConstantBy}
-use Rattle.infer.specs.Steps.{AtMostOne, One, Two, Items, LastOne, Entries, EnvAs, EndAt, SomeEnd, EndedBy, SpeltAs, QuietBy}
+use Rattle.infer.specs.Steps.{AtMostOne, One, Two, Items, LastOne, Entries, EnvAs, EndAt, SomeEnd, EndedBy, QuietBy}
 use Rattle.infer.specs.declared.step.Env.{Env as Binds}
 use Rattle.infer.proofs.StepLaws.{typing_of, typing-at}
 
 -- ## Names
-
-drop_past : (n : ℕ) (l : Bytes) → length l ≤ n → drop n l ≡ []
-drop_past zero [] h = refl
-drop_past (suc n) [] h = refl
-drop_past zero (x ∷ l) h = absurd (omega arith)
-drop_past (suc n) (x ∷ l) h = drop_past n l (omega arith)
-
-pub spelt-end : {name stop : ℕ} → stop ≤ name → SpeltAs name stop stop
-spelt-end {name} {stop} h =
-    record { below = omega arith; same = λ s. slice_empty stop s ∙ sym (drop_past name (take stop s) (omega (arith, length-take stop s))) }
 
 -- the digits of a name that is read spell it
 pub name-spelt : (s n : Bytes) → unhex s ≡ some n → s ≡ map hex n
@@ -222,7 +211,7 @@ typed-rule membership (inr e) = cc
 typed-rule comprehension (inl e) = cc
 typed-rule comprehension (inr e) = cc
 
-module _ {i : Rule} {sheet : Bytes} {b : Binds} {h : Seen} {s : Bytes} {st : Accumulator} {y : Tally} (nr : RuleIs i h) where
+module _ {i : Rule} {sheet : Bytes} {b : Binds} {h : Seen} {s : Bytes} {st : Accumulator} {y : Report} (nr : RuleIs i h) where
   pub some-rule : SomeEnd sheet b h s st y → (i ≡ Silent) ⊎ (i ≡ Entry) → ⊥
   some-rule d (inl e) = typed-rule d.typing (inl (sym (rule-of nr d.at) ∙ e))
   some-rule d (inr e) = typed-rule d.typing (inr (sym (rule-of nr d.at) ∙ e))
@@ -264,52 +253,52 @@ module _ {i : Rule} {sheet : Bytes} {b : Binds} {h : Seen} {s : Bytes} {st : Acc
 
 -- ## What they ensure
 
-module _ {i : Rule} {sheet : Bytes} {b : Binds} {h : Seen} {s s' : Bytes} {st : Accumulator} {out out' : Bytes} {y : Tally} {r : Optional Typed} (nr : RuleIs i h) where
-  ends_by : (n : Rule) → (n ≡ Constant → ⊥) → i ≡ n → ((k : Kept) (hd : Head) (env : Env) → EndAt (typing_of n) k hd sheet h s st → Ends (end (typing_of n) env hd k) s s' out out' y r)
-      → EndedBy sheet b h s s' st out out' y r
+module _ {i : Rule} {sheet : Bytes} {b : Binds} {h : Seen} {s s' : Bytes} {st : Accumulator} {y z : Report} {r : Optional ℕ} (nr : RuleIs i h) where
+  ends_by : (n : Rule) → (n ≡ Constant → ⊥) → i ≡ n → ((k : Kept) (hd : Head) (env : Env) → EndAt (typing_of n) k hd sheet h s st → Ends (end (typing_of n) env hd k) s s' y z r)
+      → EndedBy sheet b h s s' st y z r
   ends_by n p e f q k hd env d w = let z = typing-at q i n (rule-of nr d) e p in rw z (f k hd env (rw z at d))
 
-  pub end-call : {x : Bytes} {j : ℕ} → i ≡ Call → SpeltAs h.name h.stop j → x ≡ slice j h.stop sheet
-      → ((a : Option Ty) → KeptAt (arg_kept a) s st → Ends (told (call_type (lookup (map digit_of x)) (args_of (arg_kept a))) (call_faults (lookup (map digit_of x)) (args_of (arg_kept a)))) s s' out out' y r)
-      → EndedBy sheet b h s s' st out out' y r
+  pub end-call : {x : Bytes} → i ≡ Call → x ≡ slice h.name h.stop sheet
+      → ((a : Option Ty) → KeptAt (arg_kept a) s st → Ends (told (call_type (lookup (map digit_of x)) (args_of (arg_kept a))) (call_faults (lookup (map digit_of x)) (args_of (arg_kept a)))) s s' y z r)
+      → EndedBy sheet b h s s' st y z r
   unfolding end
-  end-call {x} e p z f = ends_by Call (λ z. cc) e go
+  end-call {x} e spelt f = ends_by Call (λ z. cc) e go
     where
-      go : (k : Kept) (hd : Head) (env : Env) → EndAt calling k hd sheet h s st → Ends (end calling env hd k) s s' out out' y r
+      go : (k : Kept) (hd : Head) (env : Env) → EndAt calling k hd sheet h s st → Ends (end calling env hd k) s s' y z r
       go k hd env d =
-          let n : map digit_of x ≡ hd.name = ap (map digit_of) (z ∙ p.same sheet) ∙ values-unhex _ _ d.head.name in
+          let n : map digit_of x ≡ hd.name = ap (map digit_of) spelt ∙ values-unhex _ _ d.head.name in
           let a = arg_is k d.whole in
           let u : args_of (arg_kept (arg_of k)) ≡ args_of k = sym (ap args_of a) in
           rw (n, u) at (f (arg_of k) (rw a at (at-kept d)))
 
-  pub end-operator : i ≡ Operator → ((a b : Ty) → TwoAt a b s st → Ends (end_op (op h.num) a b) s s' out out' y r) → EndedBy sheet b h s s' st out out' y r
+  pub end-operator : i ≡ Operator → ((a b : Ty) → TwoAt a b s st → Ends (end_op (op h.num) a b) s s' y z r) → EndedBy sheet b h s s' st y z r
   unfolding end
   end-operator e f = ends_by Operator (λ z. cc) e go
     where
-      go : (k : Kept) (hd : Head) (env : Env) → EndAt operator k hd sheet h s st → Ends (end operator env hd k) s s' out out' y r
-      go k hd env d = subst (λ (m : ℕ). Ends (end_op (op m) (first_of k) (second_of k)) s s' out out' y r) d.head.num (f (first_of k) (second_of k) (at-two d d.whole))
+      go : (k : Kept) (hd : Head) (env : Env) → EndAt operator k hd sheet h s st → Ends (end operator env hd k) s s' y z r
+      go k hd env d = subst (λ (m : ℕ). Ends (end_op (op m) (first_of k) (second_of k)) s s' y z r) d.head.num (f (first_of k) (second_of k) (at-two d d.whole))
 
-  pub end-unary : i ≡ Unary → ((t : Ty) → KeptAt (kept t) s st → Ends (told (unary_type h.num t) (unary_faults h.num t)) s s' out out' y r) → EndedBy sheet b h s s' st out out' y r
+  pub end-unary : i ≡ Unary → ((t : Ty) → KeptAt (kept t) s st → Ends (told (unary_type h.num t) (unary_faults h.num t)) s s' y z r) → EndedBy sheet b h s s' st y z r
   unfolding end
   end-unary e f = ends_by Unary (λ z. cc) e go
     where
-      go : (k : Kept) (hd : Head) (env : Env) → EndAt unary k hd sheet h s st → Ends (end unary env hd k) s s' out out' y r
-      go k hd env d = subst (λ (m : ℕ). Ends (told (unary_type m (first_of k)) (unary_faults m (first_of k))) s s' out out' y r) d.head.num (f (first_of k) (at_one d d.whole))
+      go : (k : Kept) (hd : Head) (env : Env) → EndAt unary k hd sheet h s st → Ends (end unary env hd k) s s' y z r
+      go k hd env d = subst (λ (m : ℕ). Ends (told (unary_type m (first_of k)) (unary_faults m (first_of k))) s s' y z r) d.head.num (f (first_of k) (at_one d d.whole))
 
-  pub end-case : i ≡ Casing → ((k : Kept) → ArmForm k → KeptAt k s st → Ends (end_case k) s s' out out' y r) → EndedBy sheet b h s s' st out out' y r
+  pub end-case : i ≡ Casing → ((k : Kept) → ArmForm k → KeptAt k s st → Ends (end_case k) s s' y z r) → EndedBy sheet b h s s' st y z r
   unfolding end
   end-case e f = ends_by Casing (λ z. cc) e (λ k hd env d. f k d.whole (at-kept d))
 
-  pub end-in : i ≡ Membership → ((a b : Ty) → TwoAt a b s st → Ends (end_in a b) s s' out out' y r) → EndedBy sheet b h s s' st out out' y r
+  pub end-in : i ≡ Membership → ((a b : Ty) → TwoAt a b s st → Ends (end_in a b) s s' y z r) → EndedBy sheet b h s s' st y z r
   unfolding end
   end-in e f = ends_by Membership (λ z. cc) e (λ k hd env d. f (first_of k) (second_of k) (at-two d d.whole))
 
-  pub end-last : i ≡ Comprehension → ((t : Ty) → KeptAt (last (some t)) s st → Ends (end_last (last (some t))) s s' out out' y r) → EndedBy sheet b h s s' st out out' y r
+  pub end-last : i ≡ Comprehension → ((t : Ty) → KeptAt (last (some t)) s st → Ends (end_last (last (some t))) s s' y z r) → EndedBy sheet b h s s' st y z r
   unfolding end
   end-last e f = ends_by Comprehension (λ z. cc) e go
     where
-      go : (k : Kept) (hd : Head) (env : Env) → EndAt comprehension k hd sheet h s st → Ends (end comprehension env hd k) s s' out out' y r
-      go k hd env d = let l = last-is k d.whole in subst (λ (j : Kept). Ends (end_last j) s s' out out' y r) (sym l.is) (f l.ty (rw l.is at (at-kept d)))
+      go : (k : Kept) (hd : Head) (env : Env) → EndAt comprehension k hd sheet h s st → Ends (end comprehension env hd k) s s' y z r
+      go k hd env d = let l = last-is k d.whole in subst (λ (j : Kept). Ends (end_last j) s s' y z r) (sym l.is) (f l.ty (rw l.is at (at-kept d)))
 
 -- ## Rules that add no fault
 
@@ -374,8 +363,8 @@ Ruled i sheet h s st = (q : Typing) (k : Kept) (hd : Head) → EndAt q k hd shee
 pub by-rule : {i : Rule} {sheet : Bytes} {h : Seen} {s : Bytes} {st : Accumulator} → RuleIs i h → Ruled i sheet h s st
 by-rule nr q k hd d = rule-of nr d
 
-pub settled : {i : Rule} {sheet : Bytes} {b : Binds} {h : Seen} {s s' : Bytes} {st : Accumulator} {out : Bytes} {y : Tally} {r : ℕ} → Ruled i sheet h s st → quiet i ≡ true → QuietBy i sheet b h s s' st r
-    → EndedBy sheet b h s s' st out out y (Some (record { len = r; tally = y }))
+pub settled : {i : Rule} {sheet : Bytes} {b : Binds} {h : Seen} {s s' : Bytes} {st : Accumulator} {y : Report} {r : ℕ} → Ruled i sheet h s st → quiet i ≡ true → QuietBy i sheet b h s s' st r
+    → EndedBy sheet b h s s' st y y (Some r)
 settled nr l f q k hd env d w =
     let e = nr q k hd d in
     let t = quiet-tells q env hd k (sym (ap quiet e) ∙ l) in

@@ -40,14 +40,14 @@ use Rattle.tops.specs.Standing.{Standing, Typed}
 use Rattle.tops.proofs.TopsLaws.{stand-some, stand-end, out-end, stand-skip, stand-expr}
 use Rattle.ty.specs.Parts.{TypeAt}
 use Rattle.report.specs.Report.{faults_text, type_text, tops_text, end_text, Appends, Adds}
-use Rattle.report.specs.declared.Tally.{Tally}
+use Rattle.report.specs.declared.Report.{Report}
 use Rattle.report.proofs.ReportLaws.{◌▹◌, adds-text, tops-append, count-append, report-parts}
 use Rattle.bounds.proofs.Growth.{tree-faults}
 use Rattle.infer.specs.Steps.{EnvAs}
 use Rattle.infer.specs.Walks.{result_of, Behind, WalkedAs, Walked, ExprAt, ExprAsk, ExprWalked}
 use Rattle.infer.specs.Statement.{StatementAt, MadeAs}
 use Rattle.infer.specs.declared.step.Env.{Env as Binds}
-use Rattle.infer.specs.declared.walk.Cur.{Cur}
+use Rattle.hir.specs.declared.valid.Next.{Next}
 use Rattle.infer.specs.declared.walk.Walk.{Walk}
 use Rattle.infer.specs.declared.walk.TooLarge.{TooLarge}
 use Rattle.std.specs.Prelude.{Result, Ok, Err, Option as Maybe, Some, None}
@@ -99,33 +99,33 @@ pub as_long : {a o o' : Bytes} {f f' : ℕ} → Appends a o o' f f' → length o
 as_long {a} {o} {o'} {f} p = ap length p.text ∙ length-sets o f a
 
 -- the type, the faults and the cursor
-record Told (r : Res) (work' out out' : Bytes) (y : Tally) (B : Cur → Type 0) (len : ℕ) (c : Cur) (z : Tally) : Type 0 where
+record Told (r : Res) (work' : Bytes) (y z : Report) (B : Next → Type 0) (len : ℕ) (c : Next) : Type 0 where
   pub fine : first_large r.tests ≡ none
   pub type : TypeAt work' 0 len r.ty
-  pub adds : Adds r.faults out out' y z
+  pub adds : Adds r.faults y z
   pub behind : B c
 
-told : (r : Res) (work' out out' : Bytes) (y : Tally) (B : Cur → Type 0) (len : ℕ) (c : Cur) (z : Tally) → WalkedAs (judged r) work' out out' y B (Ok (record { len = len; cur = c; tally = z })) → Told r work' out out' y B len c z
+told : (r : Res) (work' : Bytes) (y z : Report) (B : Next → Type 0) (len : ℕ) (c : Next) → WalkedAs (judged r) work' y z B (Ok (record { len = len; cur = c })) → Told r work' y z B len c
 unfolding judged
-told r work' out out' y B len c z x = go (first_large r.tests) refl x
+told r work' y z B len c x = go (first_large r.tests) refl x
   where
-    go : (o : Option ℕ) → first_large r.tests ≡ o → WalkedAs (judged_by o r) work' out out' y B (Ok (record { len = len; cur = c; tally = z })) → Told r work' out out' y B len c z
+    go : (o : Option ℕ) → first_large r.tests ≡ o → WalkedAs (judged_by o r) work' y z B (Ok (record { len = len; cur = c })) → Told r work' y z B len c
     go none e w = record { fine = e; type = w.0; adds = w.1; behind = w.2 }
     go (some l) e w = absurd w
 
 -- or the line of a type that is too large
-halts : (r : Res) (work' out out' : Bytes) (y : Tally) (B : Cur → Type 0) (i : TooLarge) → WalkedAs (judged r) work' out out' y B (Err i) → first_large r.tests ≡ some i.0.0
+halts : (r : Res) (work' : Bytes) (y z : Report) (B : Next → Type 0) (i : TooLarge) → WalkedAs (judged r) work' y z B (Err i) → first_large r.tests ≡ some i.0.0
 unfolding judged
-halts r work' out out' y B i x = go (first_large r.tests) refl x
+halts r work' y z B i x = go (first_large r.tests) refl x
   where
-    go : (o : Option ℕ) → first_large r.tests ≡ o → WalkedAs (judged_by o r) work' out out' y B (Err i) → first_large r.tests ≡ some i.0.0
+    go : (o : Option ℕ) → first_large r.tests ≡ o → WalkedAs (judged_by o r) work' y z B (Err i) → first_large r.tests ≡ some i.0.0
     go none e w = absurd w
     go (some l) e w = e ∙ ap some (sym w)
 
 -- ## Before a line
 
 -- the heads that are left, the top expressions so far, and what they came to
-pub record Mid (levels : ℕ) (s : Bytes) (env : Env) (n : ℕ) (rest : List Head) (out₀ out : Bytes) (c : Cur) (y : Tally) (types : ℕ) : Type 0 where
+pub record Mid (levels : ℕ) (s : Bytes) (env : Env) (n : ℕ) (rest : List Head) (out₀ : Bytes) (c : Next) (y : Report) (types : ℕ) : Type 0 where
   pub hs : List Head
   pub lines : Lines s c.at hs (length s)
   pub standing : Standing levels hs
@@ -134,17 +134,17 @@ pub record Mid (levels : ℕ) (s : Bytes) (env : Env) (n : ℕ) (rest : List Hea
   pub ts : List Top
   pub tops : out_tops env n rest ≡ ts ++ out_tops env c.line.0 hs
   pub tests : first_large (all_tests (walk env n rest)) ≡ first_large (all_tests (walk env c.line.0 hs))
-  pub text : Appends (tops_text ts) out₀ out 0 y.fill
+  pub text : Appends (tops_text ts) out₀ y.writer.now.out.now 0 y.writer.now.fill
   pub faults : y.faults ≡ fault_count ts
   pub count : types ≡ length ts
   pub few : types + length hs ≤ 65536
-  pub small : y.fill + 2048 * length hs ≤ 2048 * 65536
+  pub small : y.writer.now.fill + 2048 * length hs ≤ 2048 * 65536
   pub rare : y.faults + 2048 * length hs ≤ 2048 * 65536
 
 -- before the first
-pub mid_start : {levels : ℕ} {s : Bytes} {c : Cur} (a : StatementAt levels s c) (env : Env) (out : Bytes) → Mid levels s env c.line.0 a.rest out out c (record { fill = 0; faults = 0 }) 0
+pub mid_start : {levels : ℕ} {s : Bytes} {c : Next} {out : Bytes} (a : StatementAt levels s c) (env : Env) (y : Report) → y.writer.now.out.now ≡ out → y.writer.now.fill ≡ 0 → y.faults ≡ 0 → Mid levels s env c.line.0 a.rest out c y 0
 unfolding tops_text fault_count
-mid_start {s = s} {c = c} a env out =
+mid_start {s = s} {c = c} a env y o f z =
     let l : length a.rest ≤ 65536 = omega (arith, lines-few a.lines, a.room) in
     record {
       hs = a.rest;
@@ -155,15 +155,15 @@ mid_start {s = s} {c = c} a env out =
       ts = [];
       tops = refl;
       tests = refl;
-      text = record { text = refl; end = refl };
-      faults = refl;
+      text = record { text = o; end = f };
+      faults = z;
       count = refl;
       few = omega arith;
       small = omega arith;
       rare = omega arith;
     }
 
-module _ {levels : ℕ} {s : Bytes} {env : Env} {n : ℕ} {rest : List Head} {out₀ out : Bytes} {c : Cur} {y : Tally} {types : ℕ} (m : Mid levels s env n rest out₀ out c y types) where
+module _ {levels : ℕ} {s : Bytes} {env : Env} {n : ℕ} {rest : List Head} {out₀ : Bytes} {c : Next} {y : Report} {types : ℕ} (m : Mid levels s env n rest out₀ c y types) where
   pub mid-inside : c.at < length s
   mid-inside = omega (arith, lines-few m.lines, stand-some m.hs m.standing)
 
@@ -173,7 +173,7 @@ module _ {levels : ℕ} {s : Bytes} {env : Env} {n : ℕ} {rest : List Head} {ou
   pub mid-below : c.line.0 ≤ length s + 1
   mid-below = omega (arith, m.above, mid-inside)
 
-  pub mid-fill : y.fill + 64 < 2 ^ 64
+  pub mid-fill : y.writer.now.fill + 64 < 2 ^ 64
   mid-fill = omega (arith, m.small)
 
   pub mid-types : types + 1 < 2 ^ 64
@@ -203,7 +203,7 @@ opened-next {s} {p} {q} {n} a o b = go (behind-ends o b) (dec_lt b.end (length s
 
 -- ## The line at the cursor
 
-module _ {levels : ℕ} {s : Bytes} {env : Env} {n : ℕ} {rest : List Head} {out₀ out : Bytes} {c : Cur} {y : Tally} {types : ℕ} (m : Mid levels s env n rest out₀ out c y types) where
+module _ {levels : ℕ} {s : Bytes} {env : Env} {n : ℕ} {rest : List Head} {out₀ : Bytes} {c : Next} {y : Report} {types : ℕ} (m : Mid levels s env n rest out₀ c y types) where
   here : Ahead s c.at m.hs (length s)
   here = look m.lines (stand-some m.hs m.standing)
 
@@ -236,7 +236,7 @@ module _ {levels : ℕ} {s : Bytes} {env : Env} {n : ℕ} {rest : List Head} {ou
     mid-class k x = class-is s k here.head (x here.head here.next here.line).1 ∙ sym rank-here
 
     -- the end
-    pub mid-end : rank (row (word_of w)).place ≡ 3 → {out' : Bytes} {f : ℕ} → Appends (end_text types y.faults) out out' y.fill f
+    pub mid-end : rank (row (word_of w)).place ≡ 3 → {out' : Bytes} {f : ℕ} → Appends (end_text types y.faults) y.writer.now.out.now out' y.writer.now.fill f
         → MadeAs (first_large (all_tests (walk env n rest))) (out_tops env n rest) out₀ out' (Ok f)
     mid-end e {out'} {f} v =
         let three = sym rank-here ∙ e in
@@ -250,7 +250,7 @@ module _ {levels : ℕ} {s : Bytes} {env : Env} {n : ℕ} {rest : List Head} {ou
         rw (tests, tops) (long, whole.text ∙ ap (sets out₀ 0) parts)
 
     -- a line that is stepped over
-    pub mid-skip : (rank (row (word_of w)).place ≡ 3 → ⊥) → (rank (row (word_of w)).place ≡ 13 → ⊥) → (c' : Cur) → BehindAs s r.from c'.at × (c'.line.0 ≡ c.line.0 + 1) → Mid levels s env n rest out₀ out c' y types
+    pub mid-skip : (rank (row (word_of w)).place ≡ 3 → ⊥) → (rank (row (word_of w)).place ≡ 13 → ⊥) → (c' : Next) → BehindAs s r.from c'.at × (c'.line.0 ≡ c.line.0 + 1) → Mid levels s env n rest out₀ c' y types
     mid-skip a b c' p =
         let t = stand-skip env c.line.0 here.head here.tail stands (λ e. b (rank-here ∙ e)) (λ e. a (rank-here ∙ e)) in
         let l : suc c.line.0 ≡ c'.line.0 = omega (arith, p.1) in
@@ -321,31 +321,31 @@ module _ {levels : ℕ} {s : Bytes} {env : Env} {n : ℕ} {rest : List Head} {ou
       unfolding rank
       bound-faults = tree-faults env c.line.0 here.head here.tail tree.left (at expression_place levels) (omega arith) tree.met
 
-      module _ {b : Binds} (v : EnvAs s b env) {work work' out' : Bytes} {w : Result Walk TooLarge} (g : ExprWalked s b k c levels work work' out out' y w) where
+      module _ {b : Binds} (v : EnvAs s b env) {work work' : Bytes} {z : Report} {w : Result Walk TooLarge} (g : ExprWalked s b k c levels work work' y z w) where
         abbrev res : Res
         res = result_of env c.line.0 here.head here.tail
 
-        walked : Walked env s c.line.0 here.head here.tail tree.left work work' out out' y w
+        walked : Walked env s c.line.0 here.head here.tail tree.left work work' y z w
         unfolding here expr-at tree
         walked = g expr-at env v
 
         pub mid-long : length work' ≡ length work
         mid-long = walked.long
 
-        pub mid-as-long : length out' ≡ length out
+        pub mid-as-long : length z.writer.now.out.now ≡ length y.writer.now.out.now
         mid-as-long = walked.as_long
 
         -- too large
         pub mid-large : (i : TooLarge) → w ≡ Err i → (o : Bytes) → MadeAs (first_large (all_tests (walk env n rest))) (out_tops env n rest) out₀ o (Err i)
         mid-large i f o =
-            let h : first_large res.tests ≡ some i.0.0 = halts res work' out out' y (Behind env s c.line.0 here.head here.tail tree.left) i (subst (λ (u : Result Walk TooLarge). WalkedAs (judged res) work' out out' y (Behind env s c.line.0 here.head here.tail tree.left) u) f walked.answer) in
+            let h : first_large res.tests ≡ some i.0.0 = halts res work' y z (Behind env s c.line.0 here.head here.tail tree.left) i (subst (λ (u : Result Walk TooLarge). WalkedAs (judged res) work' y z (Behind env s c.line.0 here.head here.tail tree.left) u) f walked.answer) in
             let more = all_tests (walk env (c.line.0 + tree.lines) tree.left) in
             let t : first_large (all_tests (walk env n rest)) ≡ some i.0.0 = tests-here ∙ ap first_large tree.tests ∙ first-append res.tests more ∙ ap (λ (q : Option ℕ). first q (first_large more)) h in
             rw t refl
 
-        module _ {len : ℕ} {c' : Cur} {z : Tally} (f : w ≡ Ok (record { len = len; cur = c'; tally = z })) where
-          says : Told res work' out out' y (Behind env s c.line.0 here.head here.tail tree.left) len c' z
-          says = told res work' out out' y (Behind env s c.line.0 here.head here.tail tree.left) len c' z (subst (λ (u : Result Walk TooLarge). WalkedAs (judged res) work' out out' y (Behind env s c.line.0 here.head here.tail tree.left) u) f walked.answer)
+        module _ {len : ℕ} {c' : Next} (f : w ≡ Ok (record { len = len; cur = c' })) where
+          says : Told res work' y z (Behind env s c.line.0 here.head here.tail tree.left) len c'
+          says = told res work' y z (Behind env s c.line.0 here.head here.tail tree.left) len c' (subst (λ (u : Result Walk TooLarge). WalkedAs (judged res) work' y z (Behind env s c.line.0 here.head here.tail tree.left) u) f walked.answer)
 
           pub mid_len : len ≤ length work'
           mid_len = says.type.inside
@@ -353,27 +353,27 @@ module _ {levels : ℕ} {s : Bytes} {env : Env} {n : ℕ} {rest : List Head} {ou
           type-short : length (line res.ty) ≤ 1024
           type-short = result-short env c.line.0 here.head here.tail says.fine
 
-          pub mid-room : z.fill + length (take len work') + 3 < 2 ^ 64
+          pub mid-room : z.writer.now.fill + length (take len work') + 3 < 2 ^ 64
           mid-room = omega (arith, type-short, ap length says.type.is, says.adds.end, bound-faults.0, m.small, long-is)
 
           pub mid-on : c.line.0 < c'.line.0
           mid-on = omega (arith, says.behind.count, bound-faults.0)
 
-          pub mid-kept : (out'' : Bytes) (i : ℕ) → ((u : Ty) → take len work' ≡ line u → Appends (type_text u) out' out'' z.fill i) → length out'' ≡ length out
-          mid-kept out'' i d = as_long (d res.ty says.type.is) ∙ mid-as-long
+          pub mid-kept : (y' : Report) → ((u : Ty) → take len work' ≡ line u → Appends (type_text u) z.writer.now.out.now y'.writer.now.out.now z.writer.now.fill y'.writer.now.fill) → length y'.writer.now.out.now ≡ length y.writer.now.out.now
+          mid-kept y' d = as_long (d res.ty says.type.is) ∙ mid-as-long
 
-          pub mid-typed : (out'' : Bytes) (i : ℕ) → ((u : Ty) → take len work' ≡ line u → Appends (type_text u) out' out'' z.fill i) → (y' : Tally) → (y'.fill ≡ i) × (y'.faults ≡ z.faults)
-              → Mid levels s env n rest out₀ out'' c' y' (types + 1)
+          pub mid-typed : (y' : Report) → ((u : Ty) → take len work' ≡ line u → Appends (type_text u) z.writer.now.out.now y'.writer.now.out.now z.writer.now.fill y'.writer.now.fill) → y'.faults ≡ z.faults
+              → Mid levels s env n rest out₀ c' y' (types + 1)
           unfolding tops_text fault_count
-          mid-typed out'' i f y' p =
-              let d : Appends (type_text res.ty) out' out'' z.fill i = f res.ty says.type.is in
+          mid-typed y' f p =
+              let d : Appends (type_text res.ty) z.writer.now.out.now y'.writer.now.out.now z.writer.now.fill y'.writer.now.fill = f res.ty says.type.is in
               let l : c.line.0 + tree.lines ≡ c'.line.0 = omega (arith, says.behind.count, tree.long) in
               let t : Top = top_of res in
               let ts = m.ts ++ (t ∷ []) in
-              let whole : Appends (tops_text m.ts ++ (faults_text res.faults ++ type_text res.ty)) out₀ out'' 0 i = m.text ▹ (adds-text says.adds ▹ d) in
+              let whole : Appends (tops_text m.ts ++ (faults_text res.faults ++ type_text res.ty)) out₀ y'.writer.now.out.now 0 y'.writer.now.fill = m.text ▹ (adds-text says.adds ▹ d) in
               let parts : tops_text m.ts ++ (faults_text res.faults ++ type_text res.ty) ≡ tops_text ts = ap (λ (q : Bytes). tops_text m.ts ++ (faults_text res.faults ++ q)) (sym (append-nil (type_text res.ty))) ∙ sym (tops-append m.ts (t ∷ [])) in
-              let fill : y'.fill ≡ y.fill + length (faults_text res.faults) + (length (line res.ty) + 3) = omega (arith, p.0, d.end, says.adds.end, type-long res.ty) in
-              let faulted : y'.faults ≡ y.faults + length res.faults = omega (arith, p.1, says.adds.count) in
+              let fill : y'.writer.now.fill ≡ y.writer.now.fill + length (faults_text res.faults) + (length (line res.ty) + 3) = omega (arith, d.end, says.adds.end, type-long res.ty) in
+              let faulted : y'.faults ≡ y.faults + length res.faults = omega (arith, p, says.adds.count) in
               record {
                 hs = tree.left;
                 lines = says.behind.lines;
@@ -391,7 +391,7 @@ module _ {levels : ℕ} {s : Bytes} {env : Env} {n : ℕ} {rest : List Head} {ou
                     ∙ first-append res.tests (all_tests (walk env (c.line.0 + tree.lines) tree.left))
                     ∙ ap (λ (q : Option ℕ). first q (first_large (all_tests (walk env (c.line.0 + tree.lines) tree.left)))) says.fine
                     ∙ ap (λ (j : ℕ). first_large (all_tests (walk env j tree.left))) l;
-                text = record { text = whole.text ∙ ap (sets out₀ 0) parts; end = omega (arith, p.0, whole.end, ap length parts) };
+                text = record { text = whole.text ∙ ap (sets out₀ 0) parts; end = omega (arith, whole.end, ap length parts) };
                 faults = omega (arith, faulted, m.faults, count-append m.ts (t ∷ []));
                 count = omega (arith, m.count, length-append m.ts (t ∷ []));
                 few = omega (arith, m.few, long-is, bound-faults.0);
@@ -406,7 +406,9 @@ pub less : (k a b : ℕ) → a < b → a ≤ k + 1 → k + 2 - b < k + 2 - a
 less k a b h l = omega arith
 
 -- whatever stands at the first cursor: the loop is before a line
-pub record Going (levels : ℕ) (s : Bytes) (b : Binds) (c₀ : Cur) (work₀ work out₀ out : Bytes) (c : Cur) (y : Tally) (types : ℕ) : Type 0 where
+pub record Going (levels : ℕ) (s : Bytes) (b : Binds) (c₀ : Next) (work₀ work out₀ : Bytes) (y₀ : Report) (c : Next) (y : Report) (types : ℕ) : Type 0 where
   pub long : length work ≡ length work₀
-  pub as_long : length out ≡ length out₀
-  pub mid : (a : StatementAt levels s c₀) (env : Env) → EnvAs s b env → Mid levels s env c₀.line.0 a.rest out₀ out c y types
+  pub as_long : length y.writer.now.out.now ≡ length out₀
+  pub keeps : y.writer.ghost_name ≡ y₀.writer.ghost_name
+  pub keeps_out : y.writer.now.out.ghost_name ≡ y₀.writer.now.out.ghost_name
+  pub mid : (a : StatementAt levels s c₀) (env : Env) → EnvAs s b env → Mid levels s env c₀.line.0 a.rest out₀ c y types

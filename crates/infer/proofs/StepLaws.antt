@@ -15,11 +15,10 @@ use Rattle.semantics.specs.Ty.{Ty, t_any, base, ∅ᶠ}
 use Rattle.semantics.specs.Sheet.{Role, plain, condition, inner, answer, Typing, constant, var_type, element, slice as slicing, listing, mapping, calling, operator, unary, casing, membership, comprehension}
 use Rattle.semantics.specs.Walk.{asked, require, a_bool}
 use Rattle.ty.specs.Read.{kind_of}
-use Rattle.ty.specs.Kind.{SomeKind}
 use Rattle.ty.proofs.KindLaws.{two_at, kind_at}
 use Rattle.walk_run.specs.Run.{Kept, empty, over, kept, both, items, last, entries, arms, start, keep_first, keep_item, keep_entry, child}
 use Rattle.report.specs.Report.{Adds}
-use Rattle.report.specs.declared.Tally.{Tally}
+use Rattle.report.specs.declared.Report.{Report}
 use Rattle.report.proofs.ReportLaws.{adds_none}
 use Rattle.exprs.specs.State.{StAs, FineKept, ChildAt, LastChild, FirstForm, Keeps, SomeItem, ItemKept, SomeEntry, EntryKept, SomeArm}
 use Rattle.exprs.specs.declared.state.Accumulator.{Accumulator}
@@ -277,14 +276,14 @@ module _ {i : Rule} {r : CodeRole} {s : Bytes} {st : Accumulator} {n : ℕ} {x :
 
 -- ## What a child's type is asked for
 
-pub ask-bool : {i : CodeRole} {kind : ℕ} {out out' : Bytes} {y z : Tally} → i ≡ Condition → ((t : Ty) → kind_of t ≡ kind → Adds (require a_bool t) out out' y z) → AskedBy i kind out out' y z
+pub ask-bool : {i : CodeRole} {kind : ℕ} {y z : Report} → i ≡ Condition → ((t : Ty) → kind_of t ≡ kind → Adds (require a_bool t) y z) → AskedBy i kind y z
 unfolding child_role asked
 ask-bool e f plain t g h = cc
 ask-bool e f condition t g h = f t h
 ask-bool e f answer t g h = cc
 ask-bool e f (inner q) t g h = cc
 
-pub ask-none : {i : CodeRole} {kind : ℕ} {out : Bytes} {y : Tally} → (i ≡ Plain) ⊎ (i ≡ Answer) → AskedBy i kind out out y y
+pub ask-none : {i : CodeRole} {kind : ℕ} {y : Report} → (i ≡ Plain) ⊎ (i ≡ Answer) → AskedBy i kind y y
 unfolding child_role asked
 ask-none e plain t g h = adds_none
 ask-none (inl e) condition t g h = cc
@@ -297,27 +296,19 @@ ask-none e (inner q) t g h = adds_none
 pub child-first : {i : Rule} {r : CodeRole} {s : Bytes} {st : Accumulator} {n : ℕ} {x : Bytes} → SomeStep i r s st n x → st.len < length s
 child-first d = let c = d.at.at.child in omega (arith, two_at _ _ _ _ c, c.inside)
 
-pub child-kind : {i : Rule} {r : CodeRole} {s : Bytes} {st : Accumulator} {n : ℕ} {x : Bytes} → SomeStep i r s st n x → SomeKind (get_or s st.len 0)
-child-kind d = record { ty = d.ty; is = sym (kind_at _ _ _ _ d.at.at.child) }
-
-module _ {i : Rule} {r : CodeRole} {s s' : Bytes} {st : Accumulator} {n : ℕ} {x out out' : Bytes} {y z : Tally} {a : Optional Accumulator} (f : KeptBy i r s s' st n x a) (g : AskedBy r (get_or s st.len 0) out out' y z)
+module _ {i : Rule} {r : CodeRole} {s s' : Bytes} {st : Accumulator} {n : ℕ} {x : Bytes} {y z : Report} {a : Optional Accumulator} (f : KeptBy i r s s' st n x a) (g : AskedBy r (get_or s st.len 0) y z)
     (q : Typing) (p : Role) (k : Kept) (t : Ty) (m : Bytes) (e : i ≡ typing_rule q) (h : r ≡ child_role p) (d : StepAt q p k t m s st n x) where
-  adds : Adds (asked p t) out out' y z
+  adds : Adds (asked p t) y z
   adds = g p t h (sym (kind_at _ _ _ _ d.at.child))
 
-  as_long : length out' ≡ length out
+  as_long : length z.writer.now.out.now ≡ length y.writer.now.out.now
   as_long = ap length adds.text ∙ simp length-sets
 
-  pub step-on : {b : Accumulator} → a ≡ Some b → Steps (child q p k m t) p t s s' out out' y (Some (record { st = b; tally = z }))
-  step-on {b} w = go (child q p k m t) (rw w at (f q p k t m e h d)) (child-fine q p k m t d.at.fine d.at.good)
+  pub step-by : Steps (child q p k m t) p t s s' y z a
+  step-by = go (child q p k m t) a (f q p k t m e h d) (child-fine q p k m t d.at.fine d.at.good)
     where
-      go : (o : Option Kept) → Keeps o s s' (Some b) → FineSome o → Steps o p t s s' out out' y (Some (record { st = b; tally = z }))
-      go none v u = absurd v.kept
-      go (some j) v u = record { answer = (v.kept, u, adds); long = v.long; as_long = as_long }
-
-  pub step-large : a ≡ None → Steps (child q p k m t) p t s s' out out' y None
-  step-large w = go (child q p k m t) (rw w at (f q p k t m e h d))
-    where
-      go : (o : Option Kept) → Keeps o s s' None → Steps o p t s s' out out' y None
-      go none v = record { answer = tt; long = v.long; as_long = as_long }
-      go (some j) v = absurd v.kept
+      go : (o : Option Kept) (a : Optional Accumulator) → Keeps o s s' a → FineSome o → Steps o p t s s' y z a
+      go none (Some b) v u = absurd v.kept
+      go none None v u = record { answer = tt; long = v.long; as_long = as_long }
+      go (some j) (Some b) v u = record { answer = (v.kept, u, adds); long = v.long; as_long = as_long }
+      go (some j) None v u = absurd v.kept

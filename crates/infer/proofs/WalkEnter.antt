@@ -14,11 +14,11 @@ use Rattle.line.specs.declared.line.Head.{Head as Seen}
 use Rattle.hir.specs.Lines.{LineAt, Lines, Met}
 use Rattle.hir.specs.Check.{class_of}
 use Rattle.hir.proofs.PlaceLaws.{class-is}
-use Rattle.report.specs.declared.Tally.{Tally}
+use Rattle.report.specs.declared.Report.{Report}
 use Rattle.walk_run.specs.Run.{Ran, halted, typed, judged}
 use Rattle.infer.specs.declared.step.Env.{Env as Binds}
 use Rattle.infer.specs.Walks.{result_of, Behind, WalkedAs, Walked, ExprAt, ExprAsk, ExprWalked, AnyAt, AnyAsk, AnyWalked, PatternAt, PatternAsk, PatternWalked, EntersAs}
-use Rattle.infer.specs.declared.walk.Cur.{Cur}
+use Rattle.hir.specs.declared.valid.Next.{Next}
 use Rattle.infer.specs.declared.walk.Walk.{Walk}
 use Rattle.infer.specs.declared.walk.TooLarge.{TooLarge}
 use Rattle.std.specs.Prelude.{Result, Ok, Err}
@@ -27,20 +27,20 @@ use Rattle.infer.proofs.WalkTrees.{FirstLine, first-line, no-wants, First, first
 use Rattle.infer.proofs.WalkPattern.{rank-expr, deeper-same}
 
 -- the walk of an expression that tells that of the tree
-pub record Via (s : Bytes) (k : Seen) (c : Cur) (depth : ℕ) (a : AnyAt s k c depth) (e : Seen) (d : Cur) : Type 0 where
+pub record Via (s : Bytes) (k : Seen) (c : Next) (depth : ℕ) (a : AnyAt s k c depth) (e : Seen) (d : Next) : Type 0 where
   pub expr : ExprAt s e d depth
   pub fewer : length expr.tree.under ≤ length a.tree.under
-  pub gives : (env : Env) (work work' out out' : Bytes) (y : Tally) (r : Result Walk TooLarge) → Walked env s d.line.0 expr.tree.head expr.tree.under expr.tree.rest work work' out out' y r
-      → Walked env s c.line.0 a.tree.head a.tree.under a.tree.rest work work' out out' y r
+  pub gives : (env : Env) (work work' : Bytes) (y z : Report) (r : Result Walk TooLarge) → Walked env s d.line.0 expr.tree.head expr.tree.under expr.tree.rest work work' y z r
+      → Walked env s c.line.0 a.tree.head a.tree.under a.tree.rest work work' y z r
 
-walked-map : (j : Ran) (work' out out' : Bytes) (y : Tally) (B B' : Cur → Type 0) (r : Result Walk TooLarge) → ((c : Cur) → B c → B' c) → WalkedAs j work' out out' y B r → WalkedAs j work' out out' y B' r
-walked-map (halted l) work' out out' y B B' (Ok r) f w = w
-walked-map (halted l) work' out out' y B B' (Err m) f w = w
-walked-map (typed t fs) work' out out' y B B' (Ok r) f w = (w.0, w.1, f r.cur w.2)
-walked-map (typed t fs) work' out out' y B B' (Err m) f w = w
+walked-map : (j : Ran) (work' : Bytes) (y z : Report) (B B' : Next → Type 0) (r : Result Walk TooLarge) → ((c : Next) → B c → B' c) → WalkedAs j work' y z B r → WalkedAs j work' y z B' r
+walked-map (halted l) work' y z B B' (Ok r) f w = w
+walked-map (halted l) work' y z B B' (Err m) f w = w
+walked-map (typed t fs) work' y z B B' (Ok r) f w = (w.0, w.1, f r.cur w.2)
+walked-map (typed t fs) work' y z B B' (Err m) f w = w
 
 -- an entry's expression stands on the line behind its own
-module _ {s : Bytes} {k : Seen} {c : Cur} {depth : ℕ} (a : AnyAt s k c depth) (t : rule a.tree.head ≡ entering) where
+module _ {s : Bytes} {k : Seen} {c : Next} {depth : ℕ} (a : AnyAt s k c depth) (t : rule a.tree.head ≡ entering) where
   entry-rank : rank a.place ≡ 11
   entry-rank = sym (met-rank a.tree.met) ∙ entry_place_lem a.tree.head t
 
@@ -57,7 +57,7 @@ module _ {s : Bytes} {k : Seen} {c : Cur} {depth : ℕ} (a : AnyAt s k c depth) 
 rule-of-word : {s : Bytes} {k : Seen} {h : Head} → HeadIs s k h → (row (word_of k.word)).rule ≡ rule h
 rule-of-word i = ap (λ (v : Word). (row v).rule) i.word
 
-module _ {s : Bytes} {k : Seen} {c : Cur} {depth : ℕ} (a : AnyAt s k c depth) {e : Seen} {d : Cur} (E : EntersAs s k c e d) where
+module _ {s : Bytes} {k : Seen} {c : Next} {depth : ℕ} (a : AnyAt s k c depth) {e : Seen} {d : Next} (E : EntersAs s k c e d) where
   -- the line itself
   itself : (rule a.tree.head ≡ entering → ⊥) → (e ≡ k) × (d ≡ c)
   itself n = E.itself (λ w. n (sym (rule-of-word a.is) ∙ w))
@@ -72,7 +72,7 @@ module _ {s : Bytes} {k : Seen} {c : Cur} {depth : ℕ} (a : AnyAt s k c depth) 
   via-itself q t =
       let i = itself (typed-no q t) in
       let m : a.place ≡ expression_place = rank-expr a.place (sym (met-rank a.tree.met) ∙ typed-place a.tree.head q t) in
-      subst (λ (x : Cur). Via s k c depth a e x) (sym i.1) (subst (λ (x : Seen). Via s k c depth a x c) (sym i.0)
+      subst (λ (x : Next). Via s k c depth a e x) (sym i.1) (subst (λ (x : Seen). Via s k c depth a x c) (sym i.0)
       (record {
         expr = record {
           tree = record {
@@ -90,7 +90,7 @@ module _ {s : Bytes} {k : Seen} {c : Cur} {depth : ℕ} (a : AnyAt s k c depth) 
           next = a.next;
         };
         fewer = omega arith;
-        gives = λ env work work' out out' y r w. w;
+        gives = λ env work work' y z r w. w;
       }))
 
   -- an entry's expression
@@ -107,9 +107,9 @@ module _ {s : Bytes} {k : Seen} {c : Cur} {depth : ℕ} (a : AnyAt s k c depth) 
     entry-met : Met (at expression_place depth ∷ []) ((entry_first a t).head ∷ (entry_first a t).under) a.tree.rest
     entry-met = subst (λ (x : List Head). Met (at expression_place depth ∷ []) ((entry_first a t).head ∷ (entry_first a t).under) x) entry-last (entry_first a t).met
 
-    entry_gives : (env : Env) (work work' out out' : Bytes) (y : Tally) (r : Result Walk TooLarge) → Walked env s d.line.0 (entry_first a t).head (entry_first a t).under a.tree.rest work work' out out' y r
-        → Walked env s c.line.0 a.tree.head a.tree.under a.tree.rest work work' out out' y r
-    entry_gives env work work' out out' y r w =
+    entry_gives : (env : Env) (work work' : Bytes) (y z : Report) (r : Result Walk TooLarge) → Walked env s d.line.0 (entry_first a t).head (entry_first a t).under a.tree.rest work work' y z r
+        → Walked env s c.line.0 a.tree.head a.tree.under a.tree.rest work work' y z r
+    entry_gives env work work' y z r w =
         let n = c.line.0 in
         let f = a.tree.head in
         let m : d.line.0 ≡ suc n = omega (arith, entry_read.2) in
@@ -120,10 +120,10 @@ module _ {s : Bytes} {k : Seen} {c : Cur} {depth : ℕ} (a : AnyAt s k c depth) 
         ap (λ (x : ℕ). judged (result_of env x (entry_first a t).head (entry_first a t).under)) m ∙ sym (ap (λ (x : List Res). judged (step env n f x)) o ∙ judged-entry env n f R t) in
         let la = ap length (entry_first a t).same in
         record {
-          answer = walked-map (judged (result_of env n f a.tree.under)) work' out out' y (Behind env s d.line.0 (entry_first a t).head (entry_first a t).under a.tree.rest) (Behind env s n f a.tree.under a.tree.rest) r
+          answer = walked-map (judged (result_of env n f a.tree.under)) work' y z (Behind env s d.line.0 (entry_first a t).head (entry_first a t).under a.tree.rest) (Behind env s n f a.tree.under a.tree.rest) r
               (λ b x. let q : b.line.0 + length a.tree.rest ≡ n + suc (length a.tree.under) = omega (arith, x.count, la, m) in
               record { lines = x.lines; count = q; above = x.above; walked = tree-ends a.inside a.tree.met env n b.line.0 q })
-              (subst (λ (v : Ran). WalkedAs v work' out out' y (Behind env s d.line.0 (entry_first a t).head (entry_first a t).under a.tree.rest) r) j w.answer);
+              (subst (λ (v : Ran). WalkedAs v work' y z (Behind env s d.line.0 (entry_first a t).head (entry_first a t).under a.tree.rest) r) j w.answer);
           long = w.long;
           as_long = w.as_long;
         }
@@ -179,7 +179,7 @@ pub fine-inside : {s : Bytes} {at : ℕ} → FineAt s at → at ≤ length s
 fine-inside f = omega (arith, f.line.on, f.line.inside)
 
 -- what `entered` requires
-pub enters : {s : Bytes} {k : Seen} {c : Cur} {depth : ℕ} → AnyAt s k c depth → (c.line.0 < 4294967295) × ((row (word_of k.word)).rule ≡ entering → FineAt s k.next)
+pub enters : {s : Bytes} {k : Seen} {c : Next} {depth : ℕ} → AnyAt s k c depth → (c.line.0 < 4294967295) × ((row (word_of k.word)).rule ≡ entering → FineAt s k.next)
 enters {s} {k} a = (
   omega (arith, a.tree.above, a.tree.line.on, a.tree.line.inside, a.tree.room),
   λ e.
@@ -188,7 +188,7 @@ enters {s} {k} a = (
 )
 
 -- the expression's requirements and its answer
-module _ {s : Bytes} {b : Binds} {k : Seen} {c : Cur} {depth : ℕ} {work : Bytes} {y : Tally} (x : AnyAsk s b k c depth work y) {e : Seen} {d : Cur} (E : EntersAs s k c e d) (q : class_of (Ok e) ≡ 13) where
+module _ {s : Bytes} {b : Binds} {k : Seen} {c : Next} {depth : ℕ} {work : Bytes} {y : Report} (x : AnyAsk s b k c depth work y) {e : Seen} {d : Next} (E : EntersAs s k c e d) (q : class_of (Ok e) ≡ 13) where
   pub via-ask : ExprAsk s b e d depth work y
   via-ask =
       let v = via x.at E q in
@@ -200,17 +200,17 @@ module _ {s : Bytes} {b : Binds} {k : Seen} {c : Cur} {depth : ℕ} {work : Byte
         count = record { fill = omega (arith, x.count.fill, v.fewer); faults = omega (arith, x.count.faults, v.fewer) };
       }
 
-pub via-walked : {s : Bytes} {b : Binds} {k : Seen} {c : Cur} {depth : ℕ} {work work' out out' : Bytes} {y : Tally} {r : Result Walk TooLarge} {e : Seen} {d : Cur} → EntersAs s k c e d → class_of (Ok e) ≡ 13
-    → ExprWalked s b e d depth work work' out out' y r → AnyWalked s b k c depth work work' out out' y r
-via-walked {s} {b} {k} {c} {depth} {work} {work'} {out} {out'} {y} {r} E q W a env u = let v = via a E q in v.gives env work work' out out' y r (W v.expr env u)
+pub via-walked : {s : Bytes} {b : Binds} {k : Seen} {c : Next} {depth : ℕ} {work work' : Bytes} {y z : Report} {r : Result Walk TooLarge} {e : Seen} {d : Next} → EntersAs s k c e d → class_of (Ok e) ≡ 13
+    → ExprWalked s b e d depth work work' y z r → AnyWalked s b k c depth work work' y z r
+via-walked {s} {b} {k} {c} {depth} {work} {work'} {y} {z} {r} E q W a env u = let v = via a E q in v.gives env work work' y z r (W v.expr env u)
 
 -- the requirements and the answer of a tree that is neither an expression nor an entry
-module _ {s : Bytes} {k : Seen} {c : Cur} {depth : ℕ} {e : Seen} {d : Cur} (E : EntersAs s k c e d) (n : class_of (Ok e) ≡ 13 → ⊥) where
+module _ {s : Bytes} {k : Seen} {c : Next} {depth : ℕ} {e : Seen} {d : Next} (E : EntersAs s k c e d) (n : class_of (Ok e) ≡ 13 → ⊥) where
   abbrev neither_at : AnyAt s k c depth → PatternAt s c depth
   neither_at a = record { place = a.place; inside = a.inside; tree = a.tree; passes = not-via a E n }
 
-  pub neither-ask : {b : Binds} {work : Bytes} {y : Tally} → AnyAsk s b k c depth work y → PatternAsk s b c depth work y
+  pub neither-ask : {b : Binds} {work : Bytes} {y : Report} → AnyAsk s b k c depth work y → PatternAsk s b c depth work y
   neither-ask x = record { at = neither_at x.at; env = x.env; bound = x.bound; room = x.room; count = x.count }
 
-  pub neither-walked : {b : Binds} {work work' out out' : Bytes} {y : Tally} {r : Result Walk TooLarge} → PatternWalked s b c depth work work' out out' y r → AnyWalked s b k c depth work work' out out' y r
+  pub neither-walked : {b : Binds} {work work' : Bytes} {y z : Report} {r : Result Walk TooLarge} → PatternWalked s b c depth work work' y z r → AnyWalked s b k c depth work work' y z r
   neither-walked W a env u = W (neither_at a) env u

@@ -6,7 +6,7 @@ use Prim.Native.Nat.{ℕ, suc, ◌+◌, ◌-◌, ◌*◌, ◌≤◌, ◌<◌}
 use native.Mathlib.Omega.{arith}
 use native.Mathlib.Numerals.{add-one}
 use lib.ListN.{length, take, drop, length-append, length-drop, drop_of_length-le}
-use lib.Seq.{length-take-le}
+use lib.Seq.{slice, length-take-le}
 use Rattle.std.specs.Option.{ok_or}
 use Rattle.semantics.specs.Bytes.{Bytes, hex}
 use Rattle.semantics.specs.Sheet.{Head, Role, Typing, rule, roles, arity, wanted}
@@ -17,7 +17,6 @@ use Rattle.line.specs.Known.{FineAt}
 use Rattle.line.specs.declared.line.Head.{Head as Seen}
 use Rattle.line.specs.declared.line.HirId.{HirId}
 use Rattle.exprs.specs.End.{EndedAs, Countable}
-use Rattle.exprs.specs.declared.state.Typed.{Typed}
 use Rattle.exprs.specs.declared.rule.Rule.{Rule}
 use Rattle.exprs.specs.declared.role.Role.{Role as CodeRole}
 use Rattle.std.specs.declared.option.Option.{Option as Optional}
@@ -31,16 +30,15 @@ use Rattle.hir.specs.Lines.{Lines, Met}
 use Rattle.ty.specs.Parts.{TypeAt}
 use Rattle.report.proofs.ReportLaws.{adds_then}
 use Rattle.report.specs.Report.{Adds}
-use Rattle.report.specs.declared.Tally.{Tally}
+use Rattle.report.specs.declared.Report.{Report}
 use Rattle.walk_run.specs.Run.{Kept, empty, over, kept, both, items, last, entries, arms, start, child, end, Told, told, too_much, passed, after, kids, Ran, halted, concluded, judged}
 use Rattle.exprs.specs.State.{behind as behind_of, StAs, Fine, FineKept}
 use Rattle.exprs.specs.declared.state.Accumulator.{Accumulator}
 use Rattle.exprs.specs.Rules.{typing_rule, child_role}
-use Rattle.infer.specs.Steps.{Before, StepAt, SomeStep, SteppedAs, Steps, SteppedBy, EnvAs, EndAt, SomeEnd, EndedBy, SpeltAs}
-use Rattle.infer.specs.declared.step.Stepped.{Stepped}
+use Rattle.infer.specs.Steps.{Before, StepAt, SomeStep, SteppedAs, Steps, SteppedBy, EnvAs, EndAt, SomeEnd, EndedBy}
 use Rattle.infer.specs.declared.step.Env.{Env as Binds}
 use Rattle.infer.specs.Walks.{result_of, Counting, Behind, WalkedAs, Walked, AnyAsk, AnyWalked}
-use Rattle.infer.specs.declared.walk.Cur.{Cur}
+use Rattle.hir.specs.declared.valid.Next.{Next}
 use Rattle.infer.specs.declared.walk.Walk.{Walk}
 use Rattle.infer.specs.declared.walk.TooLarge.{TooLarge}
 use Rattle.std.specs.Prelude.{Result, Ok, Err}
@@ -54,8 +52,8 @@ use Rattle.infer.proofs.WalkTurn.{DoneAs, walked-done, walked-large, role_at, lo
 -- ## What an expression comes to
 
 -- its type at the end; or, where that is too large, its line
-abbrev pub ended : Optional Typed → HirId → Cur → Result Walk TooLarge
-ended (Some r) here c = Ok (record { len = r.len; cur = c; tally = r.tally })
+abbrev pub ended : Optional ℕ → HirId → Next → Result Walk TooLarge
+ended (Some n) here c = Ok (record { len = n; cur = c })
 ended None here c = Err (record { 0 = here })
 
 -- what `ok_or` makes of what may be too large
@@ -69,18 +67,18 @@ ok-none None d x e = (refl, cc)
 
 -- ## The step after a child
 
-pub record SteppedOn (o : Option Kept) (s : Bytes) (A : Tally → Type 0) (st : Accumulator) (y : Tally) : Type 0 where
+pub record SteppedOn (o : Option Kept) (s : Bytes) (A : Type 0) (st : Accumulator) : Type 0 where
   pub kept : Kept
   pub same : o ≡ some kept
   pub state : StAs kept s st
   pub fine : FineKept kept
-  pub adds : A y
+  pub adds : A
 
-stepped-on : (o : Option Kept) (s : Bytes) (A : Tally → Type 0) (a : Optional Stepped) (st : Accumulator) (y : Tally) → SteppedAs o s A a → a ≡ Some (record { st = st; tally = y }) → SteppedOn o s A st y
-stepped-on none s A a st y x e = absurd (subst (SteppedAs none s A) e x)
-stepped-on (some k) s A a st y x e = let z = subst (SteppedAs (some k) s A) e x in record { kept = k; same = refl; state = z.0; fine = z.1; adds = z.2 }
+stepped-on : (o : Option Kept) (s : Bytes) (A : Type 0) (a : Optional Accumulator) (st : Accumulator) → SteppedAs o s A a → a ≡ Some st → SteppedOn o s A st
+stepped-on none s A a st x e = absurd (subst (SteppedAs none s A) e x)
+stepped-on (some k) s A a st x e = let z = subst (SteppedAs (some k) s A) e x in record { kept = k; same = refl; state = z.0; fine = z.1; adds = z.2 }
 
-stepped-large : (o : Option Kept) (s : Bytes) (A : Tally → Type 0) (a : Optional Stepped) → SteppedAs o s A a → a ≡ None → o ≡ none
+stepped-large : (o : Option Kept) (s : Bytes) (A : Type 0) (a : Optional Accumulator) → SteppedAs o s A a → a ≡ None → o ≡ none
 stepped-large none s A a x e = refl
 stepped-large (some k) s A a x e = absurd (subst (SteppedAs (some k) s A) e x)
 
@@ -110,8 +108,8 @@ abbrev pub Held : Accumulator → Accumulator → Type 0
 Held st st' = (st'.len ≡ st.len) × (st'.second ≡ 0) × (st'.over ≡ st.over)
 
 module _ {s : Bytes} {b : Binds} {h : Seen} {here depth : ℕ} {hd : Head} {hs ks : List Head} (B : Base s h here depth hd hs ks)
-    {env : Env} (u : EnvAs s b env) {out₀ : Bytes} {y₀ : Tally} {work out : Bytes} {c : Cur} {y : Tally} {st : Accumulator} {j : ℕ}
-    (L : Loop s depth here hd hs ks env out₀ y₀ work out c y st j) (room : 1024 * (depth + 40) ≤ length work) where
+    {env : Env} (u : EnvAs s b env) {y₀ : Report} {work : Bytes} {c : Next} {y : Report} {st : Accumulator} {j : ℕ}
+    (L : Loop s depth here hd hs ks env y₀ work c y st j) (room : 1024 * (depth + 40) ≤ length work) where
   -- the line is through with its children
   abbrev qq : Typing
   qq = typing_of (rule hd)
@@ -141,19 +139,19 @@ module _ {s : Bytes} {b : Binds} {h : Seen} {here depth : ℕ} {hd : Head} {hs k
         pub child-ask : Counting y₀ (suc (length hs)) → AnyAsk s b k c (depth - 1) (Lent work st.len) y
         child-ask n = turn-ask B L less b k read u (Lent work st.len) (omega (arith, part-long work st.len, len-inside, room)) n
 
-        pub child-name : (a : ℕ) → SpeltAs k.name k.stop a → take (k.stop - a) (drop a s) ≡ map hex (turn-first B L less).head.name
-        child-name a x = spelt-name s k (turn-first B L less).head a (turn-read B L less k read).0 x
+        pub child-name : {x : Bytes} → x ≡ slice k.name k.stop s → x ≡ map hex (turn-first B L less).head.name
+        child-name z = z ∙ spelt-name (turn-read B L less k read).0
 
         pub stop-inside : k.stop ≤ length s
         stop-inside = (turn-read B L less k read).0.within
 
-        module _ {ys out' : Bytes} {a : Result Walk TooLarge} (W : AnyWalked s b k c (depth - 1) (Lent work st.len) ys out out' y a) where
-          child-walked : Walked env s c.line.0 (turn-first B L less).head (turn-first B L less).under (turn-first B L less).behind (Lent work st.len) ys out out' y a
+        module _ {ys : Bytes} {z : Report} {a : Result Walk TooLarge} (W : AnyWalked s b k c (depth - 1) (Lent work st.len) ys y z a) where
+          child-walked : Walked env s c.line.0 (turn-first B L less).head (turn-first B L less).under (turn-first B L less).behind (Lent work st.len) ys y z a
           child-walked = W (turn_any B L less k read) env u
 
           -- it was too large
           pub child-large : (m : TooLarge) → a ≡ Err m → judged (result_of env here hd hs) ≡ halted m.0.0
-          child-large m e = turn-halted B L less m.0.0 (walked-large (turn_res B L less) ys out out' y _ a m child-walked.answer e)
+          child-large m e = turn-halted B L less m.0.0 (walked-large (turn_res B L less) ys y z _ a m child-walked.answer e)
 
           back_is : Back work st.len ys ≡ take st.len work ++ ys
           back_is = back work ys st.len len-inside child-walked.long
@@ -161,15 +159,15 @@ module _ {s : Bytes} {b : Binds} {h : Seen} {here depth : ℕ} {hd : Head} {hs k
           pub back_long : length (Back work st.len ys) ≡ length work
           back_long = omega (arith, ap length back_is, length-append (take st.len work) ys, length-take-le st.len work len-inside, child-walked.long, part-long work st.len, len-inside)
 
-          pub child-long : (length (Back work st.len ys) ≡ length work) × (length out' ≡ length out₀)
+          pub child-long : (length (Back work st.len ys) ≡ length work) × (length z.writer.now.out.now ≡ length y₀.writer.now.out.now)
           child-long = (back_long, child-walked.as_long ∙ adds-long L.adds)
 
-          module _ {len : ℕ} {c' : Cur} {z : Tally} (e : a ≡ Ok (record { len = len; cur = c'; tally = z })) where
-            child-done : DoneAs (turn_res B L less) ys out out' y (Behind env s c.line.0 (turn-first B L less).head (turn-first B L less).under (turn-first B L less).behind) len c' z
-            child-done = walked-done (turn_res B L less) ys out out' y _ a len c' z child-walked.answer e
+          module _ {len : ℕ} {c' : Next} (e : a ≡ Ok (record { len = len; cur = c' })) where
+            child-done : DoneAs (turn_res B L less) ys y z (Behind env s c.line.0 (turn-first B L less).head (turn-first B L less).under (turn-first B L less).behind) len c'
+            child-done = walked-done (turn_res B L less) ys y z _ a len c' child-walked.answer e
 
             pub child-countable : Counting y₀ (suc (length hs)) → Countable z
-            child-countable n = turn-countable B L less out' z child-done.adds n
+            child-countable n = turn-countable B L less z child-done.adds n
 
             module _ {st' : Accumulator} (held : Held st st') {x : Bytes} (spelt : x ≡ map hex (turn-first B L less).head.name) where
               before_child : Before qq L.kept
@@ -204,8 +202,8 @@ module _ {s : Bytes} {b : Binds} {h : Seen} {here depth : ℕ} {hd : Head} {hs k
                 some-step =
                     record { typing = qq; role = role_at hd j; kept = weak L.kept; ty = (turn_res B L less).ty; name = (turn-first B L less).head.name; rule_is = ruled; role_is = played; at = step-at }
 
-                module _ {work'' out'' : Bytes} {d : Optional Stepped} (S : SteppedBy rl ro (Back work st.len ys) work'' st' len x out' out'' z d) where
-                  steps : Steps (child qq (role_at hd j) (weak L.kept) (turn-first B L less).head.name (turn_res B L less).ty) (role_at hd j) (turn_res B L less).ty (Back work st.len ys) work'' out' out'' z d
+                module _ {work'' : Bytes} {y'' : Report} {d : Optional Accumulator} (S : SteppedBy rl ro (Back work st.len ys) work'' st' len x z y'' d) where
+                  steps : Steps (child qq (role_at hd j) (weak L.kept) (turn-first B L less).head.name (turn_res B L less).ty) (role_at hd j) (turn_res B L less).ty (Back work st.len ys) work'' z y'' d
                   steps = S qq (role_at hd j) (weak L.kept) (turn_res B L less).ty (turn-first B L less).head.name ruled played step-at
 
                   step_same : child qq (role_at hd j) (weak L.kept) (turn-first B L less).head.name (turn_res B L less).ty ≡ child qq (role_at hd j) L.kept (turn_res B L less).name (turn_res B L less).ty
@@ -214,17 +212,17 @@ module _ {s : Bytes} {b : Binds} {h : Seen} {here depth : ℕ} {hd : Head} {hs k
                   pub step-long : length work'' ≡ length work
                   step-long = steps.long ∙ back_long
 
-                  pub step-out : length out'' ≡ length out₀
+                  pub step-out : length y''.writer.now.out.now ≡ length y₀.writer.now.out.now
                   step-out = steps.as_long ∙ adds-long child-done.adds ∙ adds-long L.adds
 
                   pub step-large : d ≡ None → judged (result_of env here hd hs) ≡ halted here
                   step-large f = turn-large B L less child-done.none (sym step_same ∙ stepped-large _ work'' _ d steps.answer f)
 
-                  pub step-on : {st'' : Accumulator} {y'' : Tally} → d ≡ Some (record { st = st''; tally = y'' }) → Loop s depth here hd hs ks env out₀ y₀ work'' out'' c' y'' st'' (j + 1)
-                  step-on {st''} {y''} f =
-                      let o = stepped-on _ work'' _ d st'' y'' steps.answer f in
-                      subst (λ (n : ℕ). Loop s depth here hd hs ks env out₀ y₀ work'' out'' c' y'' st'' n) (sym (add-one j))
-                      (turn_on B L less o.kept c' z y'' out' out'' work'' st'' child-done.none child-done.behind child-done.adds o.adds (sym step_same ∙ o.same) o.state o.fine)
+                  pub step-on : {st'' : Accumulator} → d ≡ Some st'' → Loop s depth here hd hs ks env y₀ work'' c' y'' st'' (j + 1)
+                  step-on {st''} f =
+                      let o = stepped-on _ work'' _ d st'' steps.answer f in
+                      subst (λ (n : ℕ). Loop s depth here hd hs ks env y₀ work'' c' y'' st'' n) (sym (add-one j))
+                      (turn_on B L less o.kept c' z y'' work'' st'' child-done.none child-done.behind child-done.adds o.adds (sym step_same ∙ o.same) o.state o.fine)
 
     -- ## After the last child
 
@@ -276,26 +274,26 @@ module _ {s : Bytes} {b : Binds} {h : Seen} {here depth : ℕ} {hd : Head} {hs k
             walked = tree-ends (expr-in depth) B.met env here c.line.0 n;
           }
 
-      pub end-walked : {work_e work' out' : Bytes} {e : Optional Typed} (i : HirId) → i.0 ≡ here → EndedBy s b h work work' st out out' y e → length work ≡ length work_e
-          → Walked env s here hd hs ks work_e work' out₀ out' y₀ (ended e i c)
-      end-walked {work_e} {work'} {out'} {e} i same E l =
+      pub end-walked : {work_e work' : Bytes} {z : Report} {e : Optional ℕ} (i : HirId) → i.0 ≡ here → EndedBy s b h work work' st y z e → length work ≡ length work_e
+          → Walked env s here hd hs ks work_e work' y₀ z (ended e i c)
+      end-walked {work_e} {work'} {z} {e} i same E l =
           let x = E qq L.kept hd env end-at u in
           record {
-            answer = subst (λ (v : Ran). WalkedAs v work' out₀ out' y₀ (Behind env s here hd hs ks) (ended e i c)) (sym (base-passed B env L.kept (L.faults ++ []) end-passed))
+            answer = subst (λ (v : Ran). WalkedAs v work' y₀ z (Behind env s here hd hs ks) (ended e i c)) (sym (base-passed B env L.kept (L.faults ++ []) end-passed))
                 (go (end qq env hd L.kept) e x.answer);
             long = x.long ∙ l;
             as_long = x.as_long ∙ adds-long L.adds;
           }
         where
-          go : (v : Told) (e : Optional Typed) → EndedAs v work' out out' y e → WalkedAs (concluded here v (L.faults ++ [])) work' out₀ out' y₀ (Behind env s here hd hs ks) (ended e i c)
+          go : (v : Told) (e : Optional ℕ) → EndedAs v work' y z e → WalkedAs (concluded here v (L.faults ++ [])) work' y₀ z (Behind env s here hd hs ks) (ended e i c)
           go (told t gs) (Some r) a =
-              (a.0, subst (λ (x : List Fault). Adds (x ++ gs) out₀ out' y₀ r.tally) (sym (append-nil L.faults)) (adds_then L.adds a.1), end-behind)
+              (a.0, subst (λ (x : List Fault). Adds (x ++ gs) y₀ z) (sym (append-nil L.faults)) (adds_then L.adds a.1), end-behind)
           go (told t gs) None a = absurd a
           go too_much (Some r) a = absurd a
           go too_much None a = same
 
 -- the answer of a line that is stopped
-pub stopped-walked : {env : Env} {s : Bytes} {n : ℕ} {h : Head} {hs ks : List Head} {work work' out out' : Bytes} {y : Tally} (m : TooLarge) → judged (result_of env n h hs) ≡ halted m.0.0
-    → length work' ≡ length work → length out' ≡ length out → Walked env s n h hs ks work work' out out' y (Err m)
-stopped-walked {env} {s} {n} {h} {hs} {ks} {work} {work'} {out} {out'} {y} m e l o =
-    record { answer = subst (λ (v : Ran). WalkedAs v work' out out' y (Behind env s n h hs ks) (Err m)) (sym e) refl; long = l; as_long = o }
+pub stopped-walked : {env : Env} {s : Bytes} {n : ℕ} {h : Head} {hs ks : List Head} {work work' : Bytes} {y z : Report} (m : TooLarge) → judged (result_of env n h hs) ≡ halted m.0.0
+    → length work' ≡ length work → length z.writer.now.out.now ≡ length y.writer.now.out.now → Walked env s n h hs ks work work' y z (Err m)
+stopped-walked {env} {s} {n} {h} {hs} {ks} {work} {work'} {y} {z} m e l o =
+    record { answer = subst (λ (v : Ran). WalkedAs v work' y z (Behind env s n h hs ks) (Err m)) (sym e) refl; long = l; as_long = o }

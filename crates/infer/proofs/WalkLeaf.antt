@@ -2,7 +2,7 @@
 use mathlib.Core.Path.{◌≡◌, refl, sym, ◌∙◌, ap, subst}
 use mathlib.Core.List.{List, [], ◌∷◌, ◌++◌, append-nil, map}
 use mathlib.Core.Bool.{Bool, true, false, not, ◌&&◌}
-use Prim.Native.Nat.{ℕ, ◌+◌, ◌-◌, ◌*◌, ◌≤◌, ◌<◌}
+use Prim.Native.Nat.{ℕ, ◌+◌, ◌-◌, ◌*◌, ◌≤◌}
 use native.Mathlib.Omega.{arith}
 use lib.Dec.{eqb}
 use lib.ListN.{length}
@@ -22,7 +22,7 @@ use Rattle.hir.specs.Lines.{Met, meets}
 use Rattle.hir.specs.declared.valid.Kids.{Kids}
 use Rattle.hir.proofs.LinesLaws.{inner-under}
 use Rattle.ty.specs.Parts.{TypeAt}
-use Rattle.report.specs.declared.Tally.{Tally}
+use Rattle.report.specs.declared.Report.{Report}
 use Rattle.walk_run.specs.Run.{Kept, empty, start}
 use Rattle.exprs.specs.State.{StAs, FineKept}
 use Rattle.exprs.specs.declared.state.Accumulator.{Accumulator}
@@ -33,14 +33,14 @@ use Rattle.exprs.proofs.StateLaws.{empty-is}
 use Rattle.infer.specs.Steps.{EndedBy}
 use Rattle.infer.specs.declared.step.Env.{Env as Binds}
 use Rattle.infer.specs.Walks.{Leaf, LeafAsk, LeafWalked}
-use Rattle.infer.specs.declared.walk.Cur.{Cur}
+use Rattle.hir.specs.declared.valid.Next.{Next}
 use Rattle.infer.proofs.WalkTable.{typing_of}
 use Rattle.infer.proofs.WalkTrees.{met-fits}
 use Rattle.infer.proofs.WalkSmall.{kids-arity}
 use Rattle.infer.proofs.WalkLoop.{Base, expr-base, expr-in, base-pos, base-rank, base-under, Loop, loop-start}
 use Rattle.infer.proofs.EndLaws.{Ruled, settled, quiet-constant, quiet-variable}
 use Rattle.infer.proofs.WalkInfer.{end-walked}
-use Rattle.infer.proofs.WalkCycle.{Past, infer-past}
+use Rattle.infer.proofs.WalkCycle.{Past}
 
 -- ## A word below whose line nothing can stand
 
@@ -93,7 +93,7 @@ abbrev no_kids : Kids
 no_kids = record { first = 0; all = 0; place1 = Expression; place2 = Expression }
 
 leaf_kids : (h : Seen) → Leaf h.word → KidsAs h no_kids
-leaf_kids h l = rw l (record { first = refl; all = refl; place1 = refl; place2 = refl })
+leaf_kids h l = rw l (record { first = refl; all = refl; place1 = refl; place2 = refl; small = omega arith })
 
 no-roles : (ps : List Role) → length ps ≡ 0 → ps ≡ []
 no-roles [] e = refl
@@ -120,38 +120,29 @@ module _ {s : Bytes} {h : Seen} {here depth : ℕ} {hd : Head} {hs ks : List Hea
   leaf-base : Base s h here 1 hd hs ks
   leaf-base = record { is = B.is; lines = B.lines; met = leaf-met; above = B.above; room = B.room; variable = B.variable }
 
-  leaf-loop : (env : Env) (out work : Bytes) (y : Tally) (c : Cur) (st : Accumulator) → Past c h.next here → StAs empty work st → Loop s 1 here hd hs ks env out y work out c y st 0
-  leaf-loop env out work y c st p a =
-      loop-start leaf-base env out work y c st p (subst (λ (k : Kept). StAs k work st) (sym leaf-start) a, subst FineKept (sym leaf-start) tt)
+  leaf-loop : (env : Env) (work : Bytes) (y : Report) (c : Next) (st : Accumulator) → Past c h.next here → StAs empty work st → Loop s 1 here hd hs ks env y work c y st 0
+  leaf-loop env work y c st p a =
+      loop-start leaf-base env work y c st p (subst (λ (k : Kept). StAs k work st) (sym leaf-start) a, subst FineKept (sym leaf-start) tt)
 
 -- ## `infer_leaf`
 
 abbrev none_kept : Accumulator
 none_kept = record { len = 0; second = 0; over = false }
 
-module _ {s : Bytes} {b : Binds} {h : Seen} {cur : Cur} {work : Bytes} {y : Tally} (x : LeafAsk s b h cur work y) where
-  pub leaf-past : cur.line.0 < 4294967295
-  leaf-past = infer-past x.ask
-
+module _ {s : Bytes} {b : Binds} {h : Seen} {cur : Next} {work : Bytes} (x : LeafAsk s b h cur work) where
   leaf_room : 1024 * (1 + 40) ≤ length work
   leaf_room = omega (arith, x.ask.room, base-pos (expr-base x.ask.at))
 
-  pub leaf-bound : BindsAt s b.from b.to
-  leaf-bound = x.ask.bound.binds
-
-  pub leaf-wide : 1024 ≤ length work
-  leaf-wide = omega (arith, leaf_room)
-
-  module _ {c : Cur} (p : Past c h.next cur.line.0) {work' out : Bytes} {len : ℕ} where
-    leaf-end : EndedBy s b h work work' none_kept out out y (Some (record { len = len; tally = y })) → LeafWalked s b h cur work work' out out y (record { len = len; cur = c; tally = y })
-    leaf-end E depth ζ env u =
+  module _ {c : Next} (p : Past c h.next cur.line.0) {work' : Bytes} {len : ℕ} where
+    leaf-end : ((y : Report) → EndedBy s b h work work' none_kept y y (Some len)) → LeafWalked s b h cur work work' (record { len = len; cur = c })
+    leaf-end E depth y ζ env u =
         let B = expr-base ζ in
         let a = empty-is (refl, refl, refl) work in
-        end-walked (leaf-base B x.leaf) u (leaf-loop B x.leaf env out work y c none_kept p a) leaf_room (leaf_kids h x.leaf) (omega arith) cur.line refl E refl
+        end-walked (leaf-base B x.leaf) u (leaf-loop B x.leaf env work y c none_kept p a) leaf_room (leaf_kids h x.leaf) (omega arith) cur.line refl (E y) refl
 
     pub leaf-variable : h.word ≡ Var → ((b' : BindsAt s b.from b.to) → TypeAt work' 0 len (kind_type (bind_kind h.var.0 b'.heads))) × (length work' ≡ length work)
-        → LeafWalked s b h cur work work' out out y (record { len = len; cur = c; tally = y })
-    leaf-variable e f = leaf-end (settled (is-variable e) refl (quiet-variable refl f))
+        → LeafWalked s b h cur work work' (record { len = len; cur = c })
+    leaf-variable e f = leaf-end (λ y. settled (is-variable e) refl (quiet-variable refl f))
 
-    pub leaf-constant : is_var (word_of h.word) ≡ false → ConstantBy h.word work work' len → LeafWalked s b h cur work work' out out y (record { len = len; cur = c; tally = y })
-    leaf-constant n f = leaf-end (settled (is-constant x.leaf n) refl (quiet-constant refl f))
+    pub leaf-constant : is_var (word_of h.word) ≡ false → ConstantBy h.word work work' len → LeafWalked s b h cur work work' (record { len = len; cur = c })
+    leaf-constant n f = leaf-end (λ y. settled (is-constant x.leaf n) refl (quiet-constant refl f))

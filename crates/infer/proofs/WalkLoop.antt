@@ -15,7 +15,7 @@ use Rattle.hir.specs.Lines.{Lines, Met}
 use Rattle.hir.proofs.LinesLaws.{Inner, AllIn, inner-under}
 use Rattle.report.proofs.ReportLaws.{adds_none}
 use Rattle.report.specs.Report.{faults_text, Adds}
-use Rattle.report.specs.declared.Tally.{Tally}
+use Rattle.report.specs.declared.Report.{Report}
 use Rattle.walk_run.specs.Run.{Kept, start, end, Kids, stopped, passed, after, kids, halted, concluded, closed, run_step, judged}
 use Rattle.walk_run.specs.Depth.{levels}
 use Rattle.walk_run.proofs.Fine.{walk_fine}
@@ -24,7 +24,7 @@ use Rattle.exprs.specs.State.{StAs, FineKept}
 use Rattle.exprs.specs.declared.state.Accumulator.{Accumulator}
 use Rattle.bounds.proofs.Heights.{depth-fits, children-low}
 use Rattle.infer.specs.Walks.{result_of, ExprAt}
-use Rattle.infer.specs.declared.walk.Cur.{Cur}
+use Rattle.hir.specs.declared.valid.Next.{Next}
 use Rattle.infer.proofs.WalkTable.{typing_of, typed_at}
 use Rattle.infer.proofs.WalkTrees.{met-fits, met-rank, met-under, kids-many}
 use Rattle.infer.proofs.WalkKept.{Form, form-start, LowKept, low-start}
@@ -41,7 +41,7 @@ pub record Base (s : Bytes) (h : Seen) (here depth : ℕ) (hd : Head) (hs ks : L
   pub room : length s < 4294967294
   pub variable : hd.word ≡ var_word → hd.var ≡ some (variable_of hd)
 
-pub expr-base : {s : Bytes} {h : Seen} {c : Cur} {depth : ℕ} (a : ExprAt s h c depth) → Base s h c.line.0 depth a.tree.head a.tree.under a.tree.rest
+pub expr-base : {s : Bytes} {h : Seen} {c : Next} {depth : ℕ} (a : ExprAt s h c depth) → Base s h c.line.0 depth a.tree.head a.tree.under a.tree.rest
 expr-base {s} a =
     record {
       is = a.is;
@@ -107,7 +107,7 @@ module _ {s : Bytes} {h : Seen} {here depth : ℕ} {hd : Head} {hs ks : List Hea
 abbrev left : List Role → Env → ℕ → List Head → List Res
 left ps env n hs = take (length ps) (walk env n hs)
 
-pub record Loop (s : Bytes) (depth here : ℕ) (hd : Head) (hs ks : List Head) (env : Env) (out₀ : Bytes) (y₀ : Tally) (work out : Bytes) (c : Cur) (y : Tally) (st : Accumulator) (j : ℕ) : Type 0 where
+pub record Loop (s : Bytes) (depth here : ℕ) (hd : Head) (hs ks : List Head) (env : Env) (y₀ : Report) (work : Bytes) (c : Next) (y : Report) (st : Accumulator) (j : ℕ) : Type 0 where
   pub heads : List Head
   pub kept : Kept
   pub faults : List Fault
@@ -124,15 +124,15 @@ pub record Loop (s : Bytes) (depth here : ℕ) (hd : Head) (hs ks : List Head) (
   pub fine : FineKept kept
   pub form : Form (typing_of (rule hd)) j kept
   pub low : LowKept (depth - 1) kept
-  pub adds : Adds faults out₀ out y₀ y
+  pub adds : Adds faults y₀ y
   pub text : length (faults_text faults) + 2048 * length heads ≤ 2048 * length hs
   pub few : length faults + 2048 * length heads ≤ 2048 * length hs
 
-pub loop-start : {s : Bytes} {h : Seen} {here depth : ℕ} {hd : Head} {hs ks : List Head} → Base s h here depth hd hs ks → (env : Env) (out work : Bytes) (y : Tally) (c : Cur) (st : Accumulator)
+pub loop-start : {s : Bytes} {h : Seen} {here depth : ℕ} {hd : Head} {hs ks : List Head} → Base s h here depth hd hs ks → (env : Env) (work : Bytes) (y : Report) (c : Next) (st : Accumulator)
     → (c.at ≡ h.next) × (c.line.0 ≡ here + 1) → StAs (start (typing_of (rule hd))) work st × FineKept (start (typing_of (rule hd)))
-    → Loop s depth here hd hs ks env out y work out c y st 0
+    → Loop s depth here hd hs ks env y work c y st 0
 unfolding arity faults_text
-loop-start {s} {h} {here} {depth} {hd} {hs} {ks} B env out work y c st e a =
+loop-start {s} {h} {here} {depth} {hd} {hs} {ks} B env work y c st e a =
     let q = typing_of (rule hd) in
     let n : suc here ≡ c.line.0 = omega (arith, e.1) in
     record {

@@ -20,7 +20,7 @@ use Rattle.hir.specs.Lines.{Lines, no_line, a_line, Met, all_met, meets}
 use Rattle.hir.proofs.LinesLaws.{Inner, AllIn, one_in, inner-under}
 use Rattle.report.proofs.ReportLaws.{adds_none, adds_then}
 use Rattle.report.specs.Report.{faults_text, Adds}
-use Rattle.report.specs.declared.Tally.{Tally}
+use Rattle.report.specs.declared.Report.{Report}
 use Rattle.walk_run.specs.Run.{Ran, halted, typed, judged, all_faults}
 use Rattle.walk_run.proofs.Fine.{step_by_lem}
 use Rattle.walk_run.proofs.Steps.{first, first-append}
@@ -28,7 +28,7 @@ use Rattle.bounds.proofs.Growth.{tree-faults}
 use Rattle.infer.specs.Steps.{EnvAs}
 use Rattle.infer.specs.declared.step.Env.{Env as Binds}
 use Rattle.infer.specs.Walks.{TreeAt, result_of, Counting, Behind, WalkedAs, Walked, ExprAt, ExprAsk, ExprWalked}
-use Rattle.infer.specs.declared.walk.Cur.{Cur}
+use Rattle.hir.specs.declared.valid.Next.{Next}
 use Rattle.infer.specs.declared.walk.Walk.{Walk}
 use Rattle.infer.specs.declared.walk.TooLarge.{TooLarge}
 use Rattle.std.specs.Prelude.{Result, Ok, Err}
@@ -107,7 +107,7 @@ silent-type env n h rs e = ap (λ (x : Res). x.ty) (step_by_lem env n h silent e
 
 -- ## After some lines of a tree that is no expression: `todo` trees are left
 
-pub record PatLoop (s : Bytes) (depth here : ℕ) (hd : Head) (hs ks : List Head) (env : Env) (out₀ : Bytes) (y₀ : Tally) (out : Bytes) (c : Cur) (y : Tally) (todo : ℕ) : Type 0 where
+pub record PatLoop (s : Bytes) (depth here : ℕ) (hd : Head) (hs ks : List Head) (env : Env) (y₀ : Report) (c : Next) (y : Report) (todo : ℕ) : Type 0 where
   pub heads : List Head
   pub wants : List Want
   pub faults : List Fault
@@ -120,14 +120,14 @@ pub record PatLoop (s : Bytes) (depth here : ℕ) (hd : Head) (hs ks : List Head
   pub room : length s < 4294967294
   pub same : (result_of env here hd hs).faults ≡ faults ++ all_faults (take todo (walk env c.line.0 heads))
   pub tests : first_large (result_of env here hd hs).tests ≡ first_large (all_tests (take todo (walk env c.line.0 heads)))
-  pub adds : Adds faults out₀ out y₀ y
+  pub adds : Adds faults y₀ y
   pub text : length (faults_text faults) + 2048 * length heads ≤ 2048 * suc (length hs)
   pub few : length faults + 2048 * length heads ≤ 2048 * suc (length hs)
 
-pub pat-start : {s : Bytes} {p : Place} {depth : ℕ} {c : Cur} (t : TreeAt (at p depth) s c) → 3 < rank p → (env : Env) (out : Bytes) (y : Tally)
-    → PatLoop s depth c.line.0 t.head t.under t.rest env out y out c y 1
+pub pat-start : {s : Bytes} {p : Place} {depth : ℕ} {c : Next} (t : TreeAt (at p depth) s c) → 3 < rank p → (env : Env) (y : Report)
+    → PatLoop s depth c.line.0 t.head t.under t.rest env y c y 1
 unfolding all_faults all_tests faults_text
-pat-start {s} {p} {depth} {c} t i env out y =
+pat-start {s} {p} {depth} {c} t i env y =
     let n = c.line.0 in
     let r = result_of env n t.head t.under in
     let w : take 1 (walk env n (t.head ∷ t.under)) ≡ r ∷ [] = walk_first env n 0 t.head t.under in
@@ -149,8 +149,8 @@ pat-start {s} {p} {depth} {c} t i env out y =
       few = omega arith;
     }
 
-module _ {s : Bytes} {depth here : ℕ} {hd : Head} {hs ks : List Head} {env : Env} {out₀ : Bytes} {y₀ : Tally} {out : Bytes} {c : Cur} {y : Tally} {todo : ℕ}
-    (L : PatLoop s depth here hd hs ks env out₀ y₀ out c y todo) where
+module _ {s : Bytes} {depth here : ℕ} {hd : Head} {hs ks : List Head} {env : Env} {y₀ : Report} {c : Next} {y : Report} {todo : ℕ}
+    (L : PatLoop s depth here hd hs ks env y₀ c y todo) where
   pub pat-inside : c.at ≤ length s
   pat-inside = lines-in L.lines
 
@@ -226,14 +226,14 @@ module _ {s : Bytes} {depth here : ℕ} {hd : Head} {hs ks : List Head} {env : E
               };
             }
 
-        module _ {b : Binds} (u : EnvAs s b env) {work work' out' : Bytes} {a : Result Walk TooLarge} (W : ExprWalked s b g c depth work work' out out' y a) where
-          pat-walked : Walked env s c.line.0 pat-first.head pat-first.under pat-first.behind work work' out out' y a
+        module _ {b : Binds} (u : EnvAs s b env) {work work' : Bytes} {z : Report} {a : Result Walk TooLarge} (W : ExprWalked s b g c depth work work' y z a) where
+          pat-walked : Walked env s c.line.0 pat-first.head pat-first.under pat-first.behind work work' y z a
           pat-walked = W pat_expr env u
 
           pub pat-long : length work' ≡ length work
           pat-long = pat-walked.long
 
-          pub pat-out : length out' ≡ length out₀
+          pub pat-out : length z.writer.now.out.now ≡ length y₀.writer.now.out.now
           pat-out = pat-walked.as_long ∙ adds-long L.adds
 
           pat-tests : first_large (result_of env here hd hs).tests
@@ -245,16 +245,16 @@ module _ {s : Bytes} {depth here : ℕ} {hd : Head} {hs ks : List Head} {env : E
           pat-large m e =
               judged-some (result_of env here hd hs) m.0.0
               (pat-tests ∙ ap (λ (o : Option ℕ). first o (first_large (all_tests (take (todo - 1) (drop (arity pat-first.head) (walk env (suc c.line.0) pat-first.under))))))
-              (walked-large pat_res work' out out' y _ a m pat-walked.answer e))
+              (walked-large pat_res work' y z _ a m pat-walked.answer e))
 
-          module _ {len : ℕ} {c' : Cur} {z : Tally} (e : a ≡ Ok (record { len = len; cur = c'; tally = z })) where
-            pat-done : DoneAs pat_res work' out out' y (Behind env s c.line.0 pat-first.head pat-first.under pat-first.behind) len c' z
-            pat-done = walked-done pat_res work' out out' y _ a len c' z pat-walked.answer e
+          module _ {len : ℕ} {c' : Next} (e : a ≡ Ok (record { len = len; cur = c' })) where
+            pat-done : DoneAs pat_res work' y z (Behind env s c.line.0 pat-first.head pat-first.under pat-first.behind) len c'
+            pat-done = walked-done pat_res work' y z _ a len c' pat-walked.answer e
 
             pub pat-down : suc c.line.0 ≤ c'.line.0
             pat-down = omega (arith, pat-done.behind.count, tree-shorter pat-at.inside pat-first.met)
 
-            pub pat-on : PatLoop s depth here hd hs ks env out₀ y₀ out' c' z (todo - 1)
+            pub pat-on : PatLoop s depth here hd hs ks env y₀ c' z (todo - 1)
             unfolding all_faults
             pat-on =
                 let b = pat-done.behind in
@@ -311,7 +311,7 @@ module _ {s : Bytes} {depth here : ℕ} {hd : Head} {hs ks : List Head} {env : E
         pub pass-room : c.line.0 < 4294967295
         pass-room = omega (arith, pat-line, L.room)
 
-        pub pass : (c' : Cur) → (c'.at ≡ g.next) × (c'.line.0 ≡ c.line.0 + 1) → PatLoop s depth here hd hs ks env out₀ y₀ out c' y (todo - 1 + kk.all)
+        pub pass : (c' : Next) → (c'.at ≡ g.next) × (c'.line.0 ≡ c.line.0 + 1) → PatLoop s depth here hd hs ks env y₀ c' y (todo - 1 + kk.all)
         unfolding all_faults all_tests arity
         pass c' e =
             let d = depth in
@@ -353,7 +353,7 @@ module _ {s : Bytes} {depth here : ℕ} {hd : Head} {hs ks : List Head} {env : E
     pat-zero = omega arith
 
     pub pat-end : (work_e work : Bytes) {p : Place} → rule hd ≡ silent → Met (at p depth ∷ []) (hd ∷ hs) ks → 3 < rank p → 2 ≤ length work → length work ≡ length work_e
-        → Walked env s here hd hs ks work_e (set (set work 0 80) 1 44) out₀ out y₀ (Ok (record { len = 2; cur = c; tally = y }))
+        → Walked env s here hd hs ks work_e (set (set work 0 80) 1 44) y₀ y (Ok (record { len = 2; cur = c }))
     unfolding all_faults all_tests first_large
     pat-end work_e work {p} e m i l w =
         let r = result_of env here hd hs in
@@ -363,7 +363,7 @@ module _ {s : Bytes} {depth here : ℕ} {hd : Head} {hs ks : List Head} {env : E
         let n : c.line.0 + length ks ≡ here + suc (length hs) = omega (arith, L.count, ap length pat-heads) in
         let j : judged r ≡ typed (base t_unknown) L.faults = judged-none r o ∙ ap (λ (x : Ty). typed x r.faults) t ∙ ap (typed (base t_unknown)) f in
         record {
-          answer = subst (λ (v : Ran). WalkedAs v (set (set work 0 80) 1 44) out₀ out y₀ (Behind env s here hd hs ks) (Ok (record { len = 2; cur = c; tally = y }))) (sym j) (
+          answer = subst (λ (v : Ran). WalkedAs v (set (set work 0 80) 1 44) y₀ y (Behind env s here hd hs ks) (Ok (record { len = 2; cur = c }))) (sym j) (
             unknown-front work l,
             L.adds,
             record {

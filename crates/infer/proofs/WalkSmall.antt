@@ -3,10 +3,10 @@
 use mathlib.Core.Path.{◌≡◌, refl, sym, ◌∙◌, ap}
 use mathlib.Core.List.{List, [], ◌∷◌, ◌++◌, append_assoc, map}
 use mathlib.Core.Option.{none, some}
-use Prim.Native.Nat.{ℕ, suc, zero, ◌+◌, ◌-◌, ◌*◌, ◌≤◌, ◌<◌}
+use Prim.Native.Nat.{ℕ, ◌+◌, ◌-◌, ◌*◌, ◌≤◌, ◌<◌}
 use native.Mathlib.Omega.{arith}
 use lib.ListN.{length, take, drop, set, length-append, length-map, length-replicate, replicate}
-use lib.Seq.{slice, take-nil, length-sets, length-take-le, drop_at, take-append-add}
+use lib.Seq.{slice, length-sets, length-take-le, drop_at, take-append-add}
 use Rattle.semantics.specs.Bytes.{Bytes, hex}
 use Rattle.semantics.specs.Ty.{Ty, base, t_unknown, t_list, line, line_to, letter, regular}
 use Rattle.semantics.specs.Sheet.{Head, Typing, constant, var_type, element, slice as slicing, listing, mapping, calling, operator, unary, casing, membership, comprehension, typed, row, rule, roles, arity, at, wanted, Shape, nothing, one, two, bounds, arms as arms_under, times, times_then, around, one_then, one_times, plain, condition, answer, inner}
@@ -23,7 +23,7 @@ use Rattle.hir.specs.declared.valid.Kids.{Kids}
 use Rattle.hir.proofs.PlaceLaws.{kids-of, flag_small, count_small}
 use Rattle.ty.specs.Parts.{TypeAt}
 use Rattle.report.specs.Report.{faults_text, Adds}
-use Rattle.report.specs.declared.Tally.{Tally}
+use Rattle.report.specs.declared.Report.{Report}
 use Rattle.report.proofs.ReportLaws.{faults-append}
 use Rattle.walk_run.specs.Run.{Kept, empty, over, kept, both, items, last, entries, arms, Kids as Ran, stopped, passed, after}
 use Rattle.walk_run.proofs.Levels.{Low}
@@ -31,7 +31,7 @@ use Rattle.exprs.specs.State.{Fine, FineKept}
 use Rattle.bounds.proofs.Rooms.{low-fit}
 use Rattle.exprs.specs.Rules.{typing_rule, line_rule}
 use Rattle.exprs.specs.declared.rule.Rule.{Rule}
-use Rattle.infer.specs.Steps.{RoomIn, ChildRoom, RoomOf, SpeltAs}
+use Rattle.infer.specs.Steps.{RoomIn, ChildRoom, RoomOf}
 use Rattle.infer.proofs.WalkKept.{LowKept, weak}
 use Rattle.infer.proofs.EndLaws.{name-spelt}
 
@@ -40,8 +40,8 @@ use Rattle.infer.proofs.EndLaws.{name-spelt}
 pub text-long : (a b : List Fault) → length (faults_text (a ++ b)) ≡ length (faults_text a) + length (faults_text b)
 text-long a b = ap length (faults-append a b) ∙ length-append (faults_text a) (faults_text b)
 
-pub adds-long : {a : List Fault} {o o' : Bytes} {t t' : Tally} → Adds a o o' t t' → length o' ≡ length o
-adds-long {a} {o} {o'} {t} x = ap length x.text ∙ length-sets o t.fill (faults_text a)
+pub adds-long : {a : List Fault} {y z : Report} → Adds a y z → length z.writer.now.out.now ≡ length y.writer.now.out.now
+adds-long {a} {y} x = ap length x.text ∙ length-sets y.writer.now.out.now y.writer.now.fill (faults_text a)
 
 -- ## Children run one after the other
 
@@ -130,15 +130,9 @@ end-room d (arms ms) s e p f l q r = tt
 
 -- ## Names
 
--- a part of a slice, as the code takes it
-part_slice : (a z : ℕ) (s : Bytes) → a ≤ z → take (z - a) (drop a s) ≡ slice a z s
-part_slice zero z s l = let e : z - 0 ≡ z = omega arith in ap (λ (n : ℕ). take n s) e
-part_slice (suc a) zero s l = absurd (omega arith)
-part_slice (suc a) (suc z) [] l = take-nil (suc z - suc a)
-part_slice (suc a) (suc z) (x ∷ s) l = let e : suc z - suc a ≡ z - a = omega arith in ap (λ (n : ℕ). take n (drop a s)) e ∙ part_slice a z s (omega arith)
-
-pub spelt-name : (s : Bytes) (k : Seen) (h : Head) (a : ℕ) → HeadIs s k h → SpeltAs k.name k.stop a → take (k.stop - a) (drop a s) ≡ map hex h.name
-spelt-name s k h a i x = part_slice a k.stop s x.below ∙ x.same s ∙ name-spelt (slice k.name k.stop s) h.name i.name
+-- the digits of a line's name
+pub spelt-name : {s : Bytes} {k : Seen} {h : Head} → HeadIs s k h → slice k.name k.stop s ≡ map hex h.name
+spelt-name {s} {k} {h} i = name-spelt (slice k.name k.stop s) h.name i.name
 
 -- ## A line's numbers
 

@@ -22,7 +22,7 @@ use Rattle.ty.specs.Parts.{TypeAt}
 use Rattle.unify_run.specs.Run.{given}
 use Rattle.report.proofs.ReportLaws.{adds_then, faults-short}
 use Rattle.report.specs.Report.{Adds}
-use Rattle.report.specs.declared.Tally.{Tally}
+use Rattle.report.specs.declared.Report.{Report}
 use Rattle.walk_run.specs.Run.{Kept, start, child, Kids, stopped, after, halt_at, kids, Ran, halted, judged}
 use Rattle.walk_run.specs.Depth.{levels}
 use Rattle.walk_run.proofs.Fine.{FineRes, walk_fine}
@@ -33,7 +33,7 @@ use Rattle.bounds.proofs.Growth.{tree-faults, asked-few}
 use Rattle.infer.specs.Steps.{EnvAs}
 use Rattle.infer.specs.declared.step.Env.{Env as Binds}
 use Rattle.infer.specs.Walks.{result_of, Counting, Behind, WalkedAs, AnyAt, AnyAsk}
-use Rattle.infer.specs.declared.walk.Cur.{Cur}
+use Rattle.hir.specs.declared.valid.Next.{Next}
 use Rattle.infer.specs.declared.walk.Walk.{Walk}
 use Rattle.infer.specs.declared.walk.TooLarge.{TooLarge}
 use Rattle.std.specs.Prelude.{Result, Ok, Err}
@@ -109,29 +109,29 @@ module _ (n : ℕ) (q : Typing) (k : Kept) (p : Role) (ps : List Role) (r : Res)
 
 -- ## What a walk's answer says
 
-pub record DoneAs (r : Res) (work' out out' : Bytes) (y : Tally) (B : Cur → Type 0) (len : ℕ) (c : Cur) (z : Tally) : Type 0 where
+pub record DoneAs (r : Res) (work' : Bytes) (y z : Report) (B : Next → Type 0) (len : ℕ) (c : Next) : Type 0 where
   pub none : first_large r.tests ≡ none
   pub type : TypeAt work' 0 len r.ty
-  pub adds : Adds r.faults out out' y z
+  pub adds : Adds r.faults y z
   pub behind : B c
 
-pub walked-done : (r : Res) (work' out out' : Bytes) (y : Tally) (B : Cur → Type 0) (a : Result Walk TooLarge) (len : ℕ) (c : Cur) (z : Tally) → WalkedAs (judged r) work' out out' y B a → a ≡ Ok (record { len = len; cur = c; tally = z })
-    → DoneAs r work' out out' y B len c z
-walked-done r work' out out' y B a len c z w e = go (first_large r.tests) refl
+pub walked-done : (r : Res) (work' : Bytes) (y z : Report) (B : Next → Type 0) (a : Result Walk TooLarge) (len : ℕ) (c : Next) → WalkedAs (judged r) work' y z B a → a ≡ Ok (record { len = len; cur = c })
+    → DoneAs r work' y z B len c
+walked-done r work' y z B a len c w e = go (first_large r.tests) refl
   where
-    go : (o : Option ℕ) → first_large r.tests ≡ o → DoneAs r work' out out' y B len c z
+    go : (o : Option ℕ) → first_large r.tests ≡ o → DoneAs r work' y z B len c
     go none f =
-        let x = subst (λ (j : Ran). WalkedAs j work' out out' y B (Ok (record { len = len; cur = c; tally = z }))) (judged-none r f) (subst (WalkedAs (judged r) work' out out' y B) e w) in
+        let x = subst (λ (j : Ran). WalkedAs j work' y z B (Ok (record { len = len; cur = c }))) (judged-none r f) (subst (WalkedAs (judged r) work' y z B) e w) in
         record { none = f; type = x.0; adds = x.1; behind = x.2 }
-    go (some l) f = absurd (subst (λ (j : Ran). WalkedAs j work' out out' y B (Ok (record { len = len; cur = c; tally = z }))) (judged-some r l f) (subst (WalkedAs (judged r) work' out out' y B) e w))
+    go (some l) f = absurd (subst (λ (j : Ran). WalkedAs j work' y z B (Ok (record { len = len; cur = c }))) (judged-some r l f) (subst (WalkedAs (judged r) work' y z B) e w))
 
-pub walked-large : (r : Res) (work' out out' : Bytes) (y : Tally) (B : Cur → Type 0) (a : Result Walk TooLarge) (m : TooLarge) → WalkedAs (judged r) work' out out' y B a → a ≡ Err m
+pub walked-large : (r : Res) (work' : Bytes) (y z : Report) (B : Next → Type 0) (a : Result Walk TooLarge) (m : TooLarge) → WalkedAs (judged r) work' y z B a → a ≡ Err m
     → first_large r.tests ≡ some m.0.0
-walked-large r work' out out' y B a m w e = go (first_large r.tests) refl
+walked-large r work' y z B a m w e = go (first_large r.tests) refl
   where
     go : (o : Option ℕ) → first_large r.tests ≡ o → o ≡ some m.0.0
-    go none f = absurd (subst (λ (j : Ran). WalkedAs j work' out out' y B (Err m)) (judged-none r f) (subst (WalkedAs (judged r) work' out out' y B) e w))
-    go (some l) f = ap some (sym (subst (λ (j : Ran). WalkedAs j work' out out' y B (Err m)) (judged-some r l f) (subst (WalkedAs (judged r) work' out out' y B) e w)))
+    go none f = absurd (subst (λ (j : Ran). WalkedAs j work' y z B (Err m)) (judged-none r f) (subst (WalkedAs (judged r) work' y z B) e w))
+    go (some l) f = ap some (sym (subst (λ (j : Ran). WalkedAs j work' y z B (Err m)) (judged-some r l f) (subst (WalkedAs (judged r) work' y z B) e w)))
 
 -- ## A child more
 
@@ -139,7 +139,7 @@ abbrev pub role_at : Head → ℕ → Role
 role_at hd j = get_or (roles hd) j plain
 
 module _ {s : Bytes} {h : Seen} {here depth : ℕ} {hd : Head} {hs ks : List Head} (B : Base s h here depth hd hs ks)
-    {env : Env} {out₀ : Bytes} {y₀ : Tally} {work out : Bytes} {c : Cur} {y : Tally} {st : Accumulator} {j : ℕ} (L : Loop s depth here hd hs ks env out₀ y₀ work out c y st j) where
+    {env : Env} {y₀ : Report} {work : Bytes} {c : Next} {y : Report} {st : Accumulator} {j : ℕ} (L : Loop s depth here hd hs ks env y₀ work c y st j) where
   pub loop-inside : c.at ≤ length s
   loop-inside = lines-in L.lines
 
@@ -256,13 +256,13 @@ module _ {s : Bytes} {h : Seen} {here depth : ℕ} {hd : Head} {hs ks : List Hea
         sym (ap (λ (x : List Res). (step env n f x).name) o.1 ∙ (entering-run env n f k o.0).0)
 
     -- a child more is kept
-    pub turn_on : (i : Kept) (c' : Cur) (y' y'' : Tally) (out' out'' work'' : Bytes) (st'' : Accumulator) → first_large turn_res.tests ≡ none
+    pub turn_on : (i : Kept) (c' : Next) (y' y'' : Report) (work'' : Bytes) (st'' : Accumulator) → first_large turn_res.tests ≡ none
         → Behind env s c.line.0 turn-first.head turn-first.under turn-first.behind c'
-        → Adds turn_res.faults out out' y y' → Adds (asked (role_at hd j) turn_res.ty) out' out'' y' y''
+        → Adds turn_res.faults y y' → Adds (asked (role_at hd j) turn_res.ty) y' y''
         → child (typing_of (rule hd)) (role_at hd j) L.kept turn_res.name turn_res.ty ≡ some i
         → StAs i work'' st'' → FineKept i
-        → Loop s depth here hd hs ks env out₀ y₀ work'' out'' c' y'' st'' (suc j)
-    turn_on i c' y' y'' out' out'' work'' st'' e b a₁ a₂ d w f =
+        → Loop s depth here hd hs ks env y₀ work'' c' y'' st'' (suc j)
+    turn_on i c' y' y'' work'' st'' e b a₁ a₂ d w f =
         let q = typing_of (rule hd) in
         let p = role_at hd j in
         let gs = turn_res.faults ++ asked p turn_res.ty in
@@ -294,8 +294,8 @@ module _ {s : Bytes} {h : Seen} {here depth : ℕ} {hd : Head} {hs ks : List Hea
           few = omega (arith, L.few, t.1, la, af, length-append L.faults gs, length-append turn_res.faults (asked p turn_res.ty));
         }
 
-    pub turn-countable : (out' : Bytes) (y' : Tally) → Adds turn_res.faults out out' y y' → Counting y₀ (suc (length hs)) → Countable y'
-    turn-countable out' y' a n =
+    pub turn-countable : (y' : Report) → Adds turn_res.faults y y' → Counting y₀ (suc (length hs)) → Countable y'
+    turn-countable y' a n =
         let t = tree-faults env c.line.0 turn-first.head turn-first.under turn-first.behind (at (placed (role_at hd j)) (depth - 1)) turn_in turn-first.met in
         let la = ap length turn-first.same in
         record { fill = omega (arith, n.fill, L.adds.end, L.text, a.end, t.0, la); faults = omega (arith, n.faults, L.adds.count, L.few, a.count, t.1, la) }

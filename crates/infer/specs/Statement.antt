@@ -12,18 +12,18 @@ use Rattle.tops.specs.Tops.{out_tops}
 use Rattle.tops.specs.Standing.{Standing}
 use Rattle.infer.specs.Steps.{EnvAs}
 use Rattle.infer.specs.declared.step.Env.{Env as Binds}
-use Rattle.infer.specs.declared.walk.Cur.{Cur}
+use Rattle.hir.specs.declared.valid.Next.{Next}
 use Rattle.infer.specs.declared.walk.TooLarge.{TooLarge}
 
 -- the clauses stand at the cursor, up to the end of the sheet, with so many levels for each top expression
-pub record StatementAt (levels : ℕ) (s : Bytes) (c : Cur) : Type 0 where
+pub record StatementAt (levels : ℕ) (s : Bytes) (c : Next) : Type 0 where
   pub rest : List Head
   pub lines : Lines s c.at rest (length s)
   pub standing : Standing levels rest
   pub above : c.line.0 ≤ c.at + 1
   pub room : length s < 65536
 
-pub record StatementAsk (levels : ℕ) (s : Bytes) (b : Binds) (c : Cur) (work : Bytes) : Type 0 where
+pub record StatementAsk (levels : ℕ) (s : Bytes) (b : Binds) (c : Next) (work : Bytes) : Type 0 where
   pub at : StatementAt levels s c
   pub env : Env
   pub bound : EnvAs s b env
@@ -36,7 +36,7 @@ MadeAs none ts out out' (Err m) = ⊥
 MadeAs (some l) ts out out' (Ok n) = ⊥
 MadeAs (some l) ts out out' (Err m) = m.0.0 ≡ l
 
-pub record Reported (levels : ℕ) (s : Bytes) (b : Binds) (c : Cur) (work work' out out' : Bytes) (r : Result ℕ TooLarge) : Type 0 where
+pub record Reported (levels : ℕ) (s : Bytes) (b : Binds) (c : Next) (work work' out out' : Bytes) (r : Result ℕ TooLarge) : Type 0 where
   pub long : length work' ≡ length work
   pub as_long : length out' ≡ length out
   pub made : (a : StatementAt levels s c) (env : Env) → EnvAs s b env

@@ -2,7 +2,6 @@
 use Rattle.std.specs.Prelude.{◌≡◌, Some, None, [], map, ℕ, ◌+◌, ◌*◌, ◌≤◌, length}
 use Rattle.std.specs.declared.option.Option.{Option as Optional}
 use Rattle.std.proofs.Math.Option.{Option, none, some}
-use Rattle.std.proofs.Math.Seq.{slice}
 use Rattle.semantics.specs.Limits.{type_limit}
 use Rattle.semantics.specs.Bytes.{Bytes, hex}
 use Rattle.semantics.specs.Ty.{Ty}
@@ -17,15 +16,13 @@ use Rattle.builtins.specs.Rows.{Returned}
 use Rattle.unify.specs.Work.{slots}
 use Rattle.walk_run.specs.Run.{Kept, empty, over, kept, both, items, last, entries, arms, child, told, end}
 use Rattle.report.specs.Report.{Adds}
-use Rattle.report.specs.declared.Tally.{Tally}
+use Rattle.report.specs.declared.Report.{Report}
 use Rattle.exprs.specs.State.{StAs, FineKept, ChildAt, FirstForm, ArmForm, ItemRoom, Keeps}
 use Rattle.exprs.specs.declared.state.Accumulator.{Accumulator}
 use Rattle.exprs.specs.declared.rule.Rule.{Rule}
 use Rattle.exprs.specs.declared.role.Role.{Role as CodeRole}
 use Rattle.exprs.specs.Rules.{typing_rule, child_role}
 use Rattle.exprs.specs.End.{Ends, Countable}
-use Rattle.exprs.specs.declared.state.Typed.{Typed}
-use Rattle.infer.specs.declared.step.Stepped.{Stepped}
 use Rattle.infer.specs.declared.step.Env.{Env as Binds}
 
 -- ## Which forms a rule keeps
@@ -195,23 +192,23 @@ abbrev pub KeptBy : Rule → CodeRole → Bytes → Bytes → Accumulator → �
 KeptBy i r s s' st n x a = (q : Typing) (p : Role) (k : Kept) (t : Ty) (m : Bytes) → i ≡ typing_rule q → r ≡ child_role p → StepAt q p k t m s st n x → Keeps (child q p k m t) s s' a
 
 -- what a child's type is asked for
-abbrev pub AskedBy : CodeRole → ℕ → Bytes → Bytes → Tally → Tally → Type 0
-AskedBy i kind out out' y z = (p : Role) (t : Ty) → i ≡ child_role p → kind_of t ≡ kind → Adds (asked p t) out out' y z
+abbrev pub AskedBy : CodeRole → ℕ → Report → Report → Type 0
+AskedBy i kind y z = (p : Role) (t : Ty) → i ≡ child_role p → kind_of t ≡ kind → Adds (asked p t) y z
 
-abbrev pub SteppedAs : Option Kept → Bytes → (Tally → Type 0) → Optional Stepped → Type 0
-SteppedAs none s A (Some r) = ⊥
+abbrev pub SteppedAs : Option Kept → Bytes → Type 0 → Optional Accumulator → Type 0
+SteppedAs none s A (Some st) = ⊥
 SteppedAs none s A None = Unit {0}
-SteppedAs (some k) s A (Some r) = StAs k s r.st × FineKept k × A r.tally
+SteppedAs (some k) s A (Some st) = StAs k s st × FineKept k × A
 SteppedAs (some k) s A None = ⊥
 
-pub record Steps (k : Option Kept) (p : Role) (t : Ty) (s s' out out' : Bytes) (y : Tally) (r : Optional Stepped) : Type 0 where
-  pub answer : SteppedAs k s' (Adds (asked p t) out out' y) r
+pub record Steps (k : Option Kept) (p : Role) (t : Ty) (s s' : Bytes) (y z : Report) (r : Optional Accumulator) : Type 0 where
+  pub answer : SteppedAs k s' (Adds (asked p t) y z) r
   pub long : length s' ≡ length s
-  pub as_long : length out' ≡ length out
+  pub as_long : length z.writer.now.out.now ≡ length y.writer.now.out.now
 
-abbrev pub SteppedBy : Rule → CodeRole → Bytes → Bytes → Accumulator → ℕ → Bytes → Bytes → Bytes → Tally → Optional Stepped → Type 0
-SteppedBy i r s s' st n x out out' y a =
-    (q : Typing) (p : Role) (k : Kept) (t : Ty) (m : Bytes) → i ≡ typing_rule q → r ≡ child_role p → StepAt q p k t m s st n x → Steps (child q p k m t) p t s s' out out' y a
+abbrev pub SteppedBy : Rule → CodeRole → Bytes → Bytes → Accumulator → ℕ → Bytes → Report → Report → Optional Accumulator → Type 0
+SteppedBy i r s s' st n x y z a =
+    (q : Typing) (p : Role) (k : Kept) (t : Ty) (m : Bytes) → i ≡ typing_rule q → r ≡ child_role p → StepAt q p k t m s st n x → Steps (child q p k m t) p t s s' y z a
 
 -- ## The end
 
@@ -241,7 +238,7 @@ pub record EndAt (q : Typing) (k : Kept) (hd : Head) (sheet : Bytes) (h : Seen) 
   pub wide : 1028 ≤ length s
   pub variable : hd.word ≡ var_word → hd.var ≡ some (variable_of hd)
 
-pub record SomeEnd (sheet : Bytes) (b : Binds) (h : Seen) (s : Bytes) (st : Accumulator) (y : Tally) : Type 0 where
+pub record SomeEnd (sheet : Bytes) (b : Binds) (h : Seen) (s : Bytes) (st : Accumulator) (y : Report) : Type 0 where
   pub typing : Typing
   pub kept : Kept
   pub head : Head
@@ -250,16 +247,11 @@ pub record SomeEnd (sheet : Bytes) (b : Binds) (h : Seen) (s : Bytes) (st : Accu
   pub bound : EnvAs sheet b env
   pub count : Countable y
 
-abbrev pub EndedBy : Bytes → Binds → Seen → Bytes → Bytes → Accumulator → Bytes → Bytes → Tally → Optional Typed → Type 0
-EndedBy sheet b h s s' st out out' y r =
-    (q : Typing) (k : Kept) (hd : Head) (env : Env) → EndAt q k hd sheet h s st → EnvAs sheet b env → Ends (end q env hd k) s s' out out' y r
+abbrev pub EndedBy : Bytes → Binds → Seen → Bytes → Bytes → Accumulator → Report → Report → Optional ℕ → Type 0
+EndedBy sheet b h s s' st y z r =
+    (q : Typing) (k : Kept) (hd : Head) (env : Env) → EndAt q k hd sheet h s st → EnvAs sheet b env → Ends (end q env hd k) s s' y z r
 
 -- ## What the helpers of the end ensure
-
--- where a name starts, or where it ends
-pub record SpeltAs (name stop r : ℕ) : Type 0 where
-  pub below : r ≤ stop
-  pub same : (s : Bytes) → slice r stop s ≡ slice name stop s
 
 -- an end that adds no fault and is never too large, by its type
 abbrev pub QuietBy : Rule → Bytes → Binds → Seen → Bytes → Bytes → Accumulator → ℕ → Type 0

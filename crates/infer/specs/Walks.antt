@@ -13,16 +13,16 @@ use Rattle.line.specs.declared.line.Head.{Head as Seen}
 use Rattle.hir.specs.Lines.{LineAt, Lines, Met}
 use Rattle.ty.specs.Parts.{TypeAt}
 use Rattle.report.specs.Report.{Adds}
-use Rattle.report.specs.declared.Tally.{Tally}
+use Rattle.report.specs.declared.Report.{Report}
 use Rattle.walk_run.specs.Run.{Ran, halted, typed, judged}
 use Rattle.infer.specs.Steps.{EnvAs}
 use Rattle.infer.specs.declared.step.Env.{Env as Binds}
-use Rattle.infer.specs.declared.walk.Cur.{Cur}
+use Rattle.hir.specs.declared.valid.Next.{Next}
 use Rattle.infer.specs.declared.walk.Walk.{Walk}
 use Rattle.infer.specs.declared.walk.TooLarge.{TooLarge}
 
 -- a tree at the cursor whose first line meets a want; `rest` is what stands behind it
-pub record TreeAt (w : Want) (s : Bytes) (c : Cur) : Type 0 where
+pub record TreeAt (w : Want) (s : Bytes) (c : Next) : Type 0 where
   pub head : Head
   pub under : List Head
   pub rest : List Head
@@ -38,102 +38,103 @@ abbrev pub result_of : Env → ℕ → Head → List Head → Res
 result_of env n h hs = step env n h (take (arity h) (walk env (suc n) hs))
 
 -- the report can be counted through all lines that are left
-pub record Counting (y : Tally) (lines : ℕ) : Type 0 where
-  pub fill : y.fill + 2048 * lines < 2 ^ 60
+pub record Counting (y : Report) (lines : ℕ) : Type 0 where
+  pub fill : y.writer.now.fill + 2048 * lines < 2 ^ 60
   pub faults : y.faults + 2048 * lines < 2 ^ 60
 
 -- the cursor behind the tree
-pub record Behind (env : Env) (s : Bytes) (n : ℕ) (h : Head) (hs ks : List Head) (c : Cur) : Type 0 where
+pub record Behind (env : Env) (s : Bytes) (n : ℕ) (h : Head) (hs ks : List Head) (c : Next) : Type 0 where
   pub lines : Lines s c.at ks (length s)
   pub count : c.line.0 + length ks ≡ n + suc (length hs)
   pub above : c.line.0 ≤ c.at + 1
   pub walked : drop (arity h) (walk env (suc n) hs) ≡ walk env c.line.0 ks
 
 -- the answer of a walk: stopped at a line; or the type at the front, the faults added, and the cursor behind the tree
-abbrev pub WalkedAs : Ran → Bytes → Bytes → Bytes → Tally → (Cur → Type 0) → Result Walk TooLarge → Type 0
-WalkedAs (halted l) work' out out' y B (Ok w) = ⊥
-WalkedAs (halted l) work' out out' y B (Err m) = m.0.0 ≡ l
-WalkedAs (typed t fs) work' out out' y B (Ok w) = TypeAt work' 0 w.len t × Adds fs out out' y w.tally × B w.cur
-WalkedAs (typed t fs) work' out out' y B (Err m) = ⊥
+abbrev pub WalkedAs : Ran → Bytes → Report → Report → (Next → Type 0) → Result Walk TooLarge → Type 0
+WalkedAs (halted l) work' y z B (Ok w) = ⊥
+WalkedAs (halted l) work' y z B (Err m) = m.0.0 ≡ l
+WalkedAs (typed t fs) work' y z B (Ok w) = TypeAt work' 0 w.len t × Adds fs y z × B w.cur
+WalkedAs (typed t fs) work' y z B (Err m) = ⊥
 
-pub record Walked (env : Env) (s : Bytes) (n : ℕ) (h : Head) (hs ks : List Head) (work work' out out' : Bytes) (y : Tally) (r : Result Walk TooLarge) : Type 0 where
-  pub answer : WalkedAs (judged (result_of env n h hs)) work' out out' y (Behind env s n h hs ks) r
+pub record Walked (env : Env) (s : Bytes) (n : ℕ) (h : Head) (hs ks : List Head) (work work' : Bytes) (y z : Report) (r : Result Walk TooLarge) : Type 0 where
+  pub answer : WalkedAs (judged (result_of env n h hs)) work' y z (Behind env s n h hs ks) r
   pub long : length work' ≡ length work
-  pub as_long : length out' ≡ length out
+  pub as_long : length z.writer.now.out.now ≡ length y.writer.now.out.now
 
 -- ## An expression: `depth` levels are left, this one included
 
-pub record ExprAt (s : Bytes) (h : Seen) (c : Cur) (depth : ℕ) : Type 0 where
+pub record ExprAt (s : Bytes) (h : Seen) (c : Next) (depth : ℕ) : Type 0 where
   pub tree : TreeAt (at expression_place depth) s c
   pub is : HeadIs s h tree.head
   pub next : h.next ≡ tree.next
 
-pub record ExprAsk (s : Bytes) (b : Binds) (h : Seen) (c : Cur) (depth : ℕ) (work : Bytes) (y : Tally) : Type 0 where
+pub record ExprAsk (s : Bytes) (b : Binds) (h : Seen) (c : Next) (depth : ℕ) (work : Bytes) (y : Report) : Type 0 where
   pub at : ExprAt s h c depth
   pub env : Env
   pub bound : EnvAs s b env
   pub room : type_limit * (depth + 40) ≤ length work
   pub count : Counting y (suc (length at.tree.under))
 
-abbrev pub ExprWalked : Bytes → Binds → Seen → Cur → ℕ → Bytes → Bytes → Bytes → Bytes → Tally → Result Walk TooLarge → Type 0
-ExprWalked s b h c depth work work' out out' y r =
-    (a : ExprAt s h c depth) (env : Env) → EnvAs s b env → Walked env s c.line.0 a.tree.head a.tree.under a.tree.rest work work' out out' y r
+abbrev pub ExprWalked : Bytes → Binds → Seen → Next → ℕ → Bytes → Bytes → Report → Report → Result Walk TooLarge → Type 0
+ExprWalked s b h c depth work work' y z r =
+    (a : ExprAt s h c depth) (env : Env) → EnvAs s b env → Walked env s c.line.0 a.tree.head a.tree.under a.tree.rest work work' y z r
 
 -- ## An expression below whose line nothing can stand, with any number of levels left
 
 abbrev pub Leaf : Word → Type 0
 Leaf word = (row (word_of word)).under ≡ nothing
 
-pub record LeafAsk (s : Bytes) (b : Binds) (h : Seen) (c : Cur) (work : Bytes) (y : Tally) : Type 0 where
+pub record LeafAsk (s : Bytes) (b : Binds) (h : Seen) (c : Next) (work : Bytes) : Type 0 where
   pub depth : ℕ
+  pub y : Report
   pub ask : ExprAsk s b h c depth work y
   pub leaf : Leaf h.word
 
-abbrev pub LeafWalked : Bytes → Binds → Seen → Cur → Bytes → Bytes → Bytes → Bytes → Tally → Walk → Type 0
-LeafWalked s b h c work work' out out' y r = (depth : ℕ) → ExprWalked s b h c depth work work' out out' y (Ok r)
+abbrev pub LeafWalked : Bytes → Binds → Seen → Next → Bytes → Bytes → Walk → Type 0
+LeafWalked s b h c work work' r = (depth : ℕ) (y : Report) → ExprWalked s b h c depth work work' y y (Ok r)
 
 -- ## Any tree inside a clause: `depth` levels are left for its expressions, its own line included
 
-pub record AnyAt (s : Bytes) (k : Seen) (c : Cur) (depth : ℕ) : Type 0 where
+pub record AnyAt (s : Bytes) (k : Seen) (c : Next) (depth : ℕ) : Type 0 where
   pub place : Place
   pub inside : end_rank < rank place
   pub tree : TreeAt (at place depth) s c
   pub is : HeadIs s k tree.head
   pub next : k.next ≡ tree.next
 
-pub record AnyAsk (s : Bytes) (b : Binds) (k : Seen) (c : Cur) (depth : ℕ) (work : Bytes) (y : Tally) : Type 0 where
+pub record AnyAsk (s : Bytes) (b : Binds) (k : Seen) (c : Next) (depth : ℕ) (work : Bytes) (y : Report) : Type 0 where
   pub at : AnyAt s k c depth
   pub env : Env
   pub bound : EnvAs s b env
   pub room : type_limit * (depth + 40) ≤ length work
   pub count : Counting y (suc (length at.tree.under))
 
-abbrev pub AnyWalked : Bytes → Binds → Seen → Cur → ℕ → Bytes → Bytes → Bytes → Bytes → Tally → Result Walk TooLarge → Type 0
-AnyWalked s b k c depth work work' out out' y r =
-    (a : AnyAt s k c depth) (env : Env) → EnvAs s b env → Walked env s c.line.0 a.tree.head a.tree.under a.tree.rest work work' out out' y r
+abbrev pub AnyWalked : Bytes → Binds → Seen → Next → ℕ → Bytes → Bytes → Report → Report → Result Walk TooLarge → Type 0
+AnyWalked s b k c depth work work' y z r =
+    (a : AnyAt s k c depth) (env : Env) → EnvAs s b env → Walked env s c.line.0 a.tree.head a.tree.under a.tree.rest work work' y z r
 
 -- ## A tree that is neither an expression nor an entry: a pattern, or an item of a map projection
 
-pub record PatternAt (s : Bytes) (c : Cur) (depth : ℕ) : Type 0 where
+pub record PatternAt (s : Bytes) (c : Next) (depth : ℕ) : Type 0 where
   pub place : Place
   pub inside : end_rank < rank place
   pub tree : TreeAt (at place depth) s c
   pub passes : rule tree.head ≡ silent
 
-pub record PatternAsk (s : Bytes) (b : Binds) (c : Cur) (depth : ℕ) (work : Bytes) (y : Tally) : Type 0 where
+pub record PatternAsk (s : Bytes) (b : Binds) (c : Next) (depth : ℕ) (work : Bytes) (y : Report) : Type 0 where
   pub at : PatternAt s c depth
   pub env : Env
   pub bound : EnvAs s b env
   pub room : type_limit * (depth + 40) ≤ length work
   pub count : Counting y (suc (length at.tree.under))
 
-abbrev pub PatternWalked : Bytes → Binds → Cur → ℕ → Bytes → Bytes → Bytes → Bytes → Tally → Result Walk TooLarge → Type 0
-PatternWalked s b c depth work work' out out' y r =
-    (a : PatternAt s c depth) (env : Env) → EnvAs s b env → Walked env s c.line.0 a.tree.head a.tree.under a.tree.rest work work' out out' y r
+abbrev pub PatternWalked : Bytes → Binds → Next → ℕ → Bytes → Bytes → Report → Report → Result Walk TooLarge → Type 0
+PatternWalked s b c depth work work' y z r =
+    (a : PatternAt s c depth) (env : Env) → EnvAs s b env → Walked env s c.line.0 a.tree.head a.tree.under a.tree.rest work work' y z r
 
 -- ## Small functions
 
 -- an entry's expression stands on the line behind it; any other line stands for itself
-pub record EntersAs (s : Bytes) (k : Seen) (c : Cur) (e : Seen) (d : Cur) : Type 0 where
+pub record EntersAs (s : Bytes) (k : Seen) (c : Next) (e : Seen) (d : Next) : Type 0 where
   pub entry : (row (word_of k.word)).rule ≡ entering → KnownAs s k.next e × (d.at ≡ k.next) × (d.line.0 ≡ c.line.0 + 1)
   pub itself : ((row (word_of k.word)).rule ≡ entering → ⊥) → (e ≡ k) × (d ≡ c)

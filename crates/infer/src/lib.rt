@@ -7,4 +7,4 @@ mod walk;
 
 pub use statement::check_statement;
 pub use step::{Env, Sheet};
-pub use walk::{Cur, TooLarge};
+pub use walk::TooLarge;

@@ -1,5 +1,6 @@
 // Before the first child, after a child, after the last.
 ghost use Rattle.std.specs.Prelude.{◌≡◌, ◌<◌, ◌≤◌, length};
+ghost use Rattle.std.proofs.Math.Seq.{slice};
 ghost use Rattle.semantics.specs.Limits.{type_limit};
 ghost use Rattle.semantics.specs.Sheet.{Typing};
 ghost use Rattle.walk_run.specs.Run.{start};
@@ -7,12 +8,12 @@ ghost use Rattle.ty.specs.Kind.{SomeKind};
 ghost use Rattle.exprs.specs.State.{StAs, FineKept};
 ghost use Rattle.exprs.specs.End.{Countable};
 ghost use Rattle.exprs.specs.Rules.{typing_rule};
-ghost use Rattle.infer.specs.Steps.{AskedBy, SomeStep, KeptBy, SteppedBy, SpeltAs, SomeEnd, EndedBy};
+ghost use Rattle.infer.specs.Steps.{AskedBy, SomeStep, KeptBy, SteppedBy, SomeEnd, EndedBy};
 
-use exprs::{Accumulator, Role, Rule, Typed, rule_of};
+use exprs::{Accumulator, Role, Rule, rule_of};
 use line::Head;
 use operators::Need;
-use report::Tally;
+use report::Report;
 
 // Where the `b` lines stand.
 #[derive(Clone, Copy)]
@@ -28,14 +29,8 @@ pub struct Sheet<'s> {
     pub binds: Env,
 }
 
-// What is kept after a child, and the output's counts.
-#[derive(Drop)]
-pub struct Stepped {
-    pub st: Accumulator,
-    pub tally: Tally,
-}
-
-// Before the first child.
+// Before the first child. (The work area is a slice of no one length, since a child is lent what is behind its mark: that there is room for a
+// type is asked for.)
 pub fn start(rule: Rule, work: &mut [u8]) -> Accumulator
     requires { type_limit ≤ length work.old }
     ensures { (length work.new ≡ length work.old) × ((q : Typing) → rule ≡ typing_rule q → StAs (start q) work.new result × FineKept (start q)) }
@@ -73,13 +68,15 @@ fn keep(
 }
 
 // What a child's type is asked for by its role.
-fn check_role(role: Role, kind: u8, out: &mut [u8], tally: Tally) -> Tally
-    requires { Countable tally × SomeKind kind }
-    ensures { AskedBy role kind out.old out.new tally result }
+fn check_role(role: Role, kind: u8, report: &mut Report<'_, '_>)
+    requires { Countable report.old }
+    ensures keeps { report.new.writer.ghost_name ≡ report.old.writer.ghost_name }
+    ensures keeps_out { report.new.writer.now.out.ghost_name ≡ report.old.writer.now.out.ghost_name }
+    ensures asks { AskedBy role kind report.old report.new }
 {
     match role {
-        Role::Condition => operators::require(Need::Bool, kind, out, tally),
-        Role::Plain | Role::Answer => tally,
+        Role::Condition => operators::require(Need::Bool, kind, report),
+        Role::Plain | Role::Answer => {}
     }
 }
 
@@ -91,39 +88,38 @@ pub fn step(
     work: &mut [u8],
     n: usize,
     name: &[u8],
-    out: &mut [u8],
-    tally: Tally,
-) -> Option<Stepped>
-    requires { SomeStep rule role work.old st n name.now × Countable tally }
-    ensures { SteppedBy rule role work.old work.new st n name.now out.old out.new tally result }
+    report: &mut Report<'_, '_>,
+) -> Option<Accumulator>
+    requires { SomeStep rule role work.old st n name.now × Countable report.old }
+    ensures keeps { report.new.writer.ghost_name ≡ report.old.writer.ghost_name }
+    ensures keeps_out { report.new.writer.now.out.ghost_name ≡ report.old.writer.now.out.ghost_name }
+    ensures steps { SteppedBy rule role work.old work.new st n name.now report.old report.new result }
 {
     let k = st.len;
-    let asked = check_role(role, work[k], out, tally);
-    let kept = keep(rule, role, st, work, n, name)?;
-    Some(Stepped {
-        st: kept,
-        tally: asked,
-    })
+    check_role(role, work[k], report);
+    keep(rule, role, st, work, n, name)
 }
 
-// Where the name of a line starts.
-pub fn spelt(k: Head) -> usize
-    ensures { SpeltAs k.name k.stop result }
+// The digits of a line's name; where the line has no name its range is empty, and so is the text.
+pub fn name_of(text: &[u8], k: Head) -> &[u8]
+    requires { k.stop ≤ length text.now }
+    ensures { result.now ≡ slice k.name k.stop text.now }
 {
-    if k.name < k.stop { k.name } else { k.stop }
+    text.get(k.name..k.stop).unwrap_or_default()
 }
 
-// After the last child: the type to the front, the line's own faults to the output.
+// After the last child: the type to the front, the line's own faults to the report.
 pub fn finish(
     sheet: Sheet<'_>,
     h: Head,
     st: Accumulator,
     work: &mut [u8],
-    out: &mut [u8],
-    tally: Tally,
-) -> Option<Typed>
-    requires { SomeEnd sheet.text.now sheet.binds h work.old st tally }
-    ensures { EndedBy sheet.entry.text.now sheet.entry.binds h work.old work.new st out.old out.new tally result }
+    report: &mut Report<'_, '_>,
+) -> Option<usize>
+    requires { SomeEnd sheet.text.now sheet.binds h work.old st report.old }
+    ensures keeps { report.new.writer.ghost_name ≡ report.old.writer.ghost_name }
+    ensures keeps_out { report.new.writer.now.out.ghost_name ≡ report.old.writer.now.out.ghost_name }
+    ensures ends { EndedBy sheet.entry.text.now sheet.entry.binds h work.old work.new st report.old report.new result }
 {
     let len = match rule_of(h.word) {
         Rule::Constant => exprs::constant(h.word, work),
@@ -136,17 +132,15 @@ pub fn finish(
         Rule::Listing => exprs::end_list(st, work),
         Rule::Mapping => st.len,
         Rule::Call => {
-            let text = sheet.text;
-            let n = spelt(h);
-            let e = h.stop;
-            return Some(exprs::end_call(&text[n..e], st, work, out, tally));
+            let name = name_of(sheet.text, h);
+            exprs::end_call(name, st, work, report)
         }
-        Rule::Operator => return operators::infer_binop(h.num, st, work, out, tally),
-        Rule::Unary => return Some(operators::infer_unaryop(h.num, work, out, tally, st)),
-        Rule::Casing => return exprs::end_case(st, work, out, tally),
-        Rule::Membership => return operators::check_in_list(st, work, out, tally),
-        Rule::Comprehension => return exprs::end_comprehension(st, work, out, tally),
+        Rule::Operator => return operators::infer_binop(h.num, st, work, report),
+        Rule::Unary => operators::infer_unaryop(h.num, st, work, report),
+        Rule::Casing => return exprs::end_case(st, work),
+        Rule::Membership => return operators::check_in_list(st, work, report),
+        Rule::Comprehension => return exprs::end_comprehension(st, work),
         Rule::Silent | Rule::Entry => unreachable!(),
     };
-    Some(Typed { len, tally })
+    Some(len)
 }

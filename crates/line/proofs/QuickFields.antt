@@ -2,31 +2,33 @@
 use mathlib.Core.Path.{◌≡◌, refl, sym, ◌∙◌, ap}
 use mathlib.Core.List.{[], ◌∷◌}
 use mathlib.Core.Option.{some}
-use mathlib.Core.Bool.{Bool, true, false, cond, ◌&&◌}
+use mathlib.Core.Bool.{Bool, true, false, cond, ◌&&◌, ◌||◌}
 use mathlib.Core.Logic.{◌⊎◌, ⊎_elim}
 use Prim.Native.Nat.{ℕ, ◌+◌, ◌-◌, ◌*◌, ◌%◌, ◌≤◌, ◌<◌}
 use native.Mathlib.Decide.{dec_lt}
 use native.Mathlib.Omega.{arith}
-use lib.Dec.{leb}
-use lib.ListN.{length, get_or, take, drop}
-use lib.Seq.{slice, get_or-take, length-take-le, length-slice}
-use borrow.Author.Tests.{le-leb}
+use lib.Dec.{leb, eqb, ltb}
+use lib.ListN.{length, get_or, take, drop, length-drop}
+use lib.Seq.{slice, get_or-take, length-take-le, length-slice, take_all, get_or-drop}
+use borrow.Author.Tests.{le-leb, ltb-true, ltb-false, eqb-false, ne_eqb}
+use Rattle.std.specs.List.{position_or_len}
+use Rattle.std.proofs.lemmas.List.Sums.{fails_before_first}
 use Rattle.semantics.specs.Bytes.{Bytes, is_digit, digits, decimal, unhex}
-use Rattle.semantics.specs.Sheet.{wrong, number, is_dash, lettered}
+use Rattle.semantics.specs.Sheet.{wrong, number, is_dash, lettered, within}
 use Rattle.std.specs.Prelude.{Option as Maybe, Some, None, Ok}
 use Rattle.text.specs.Text.{is_found, is_hex}
-use Rattle.text.proofs.Laws.{get_or-slice, part_slice}
+use Rattle.text.proofs.Laws.{get_or-slice, part_slice, drop-slice}
 use Rattle.text.proofs.Words.{number-on, number-end, hexes-on, hexes-end, decimal-one, decimal-more}
 use Rattle.line.specs.declared.shapes.Shape.{Shape}
-use Rattle.line.specs.declared.shapes.Shape.TheVariants.{Range, Variable, Optional, Name, Alias, Bound, Letter, Float}
+use Rattle.line.specs.declared.shapes.Shape.TheVariants.{Range, Variable, Optional, Name, Alias, Bound, Letter, Signed, Float}
 use Rattle.line.specs.declared.in_place.Got.{Got}
 use Rattle.line.specs.declared.kinds.VarKind.{VarKind}
 use Rattle.line.specs.declared.kinds.VarKind.TheVariants.{Node, Relationship, Path, Value}
 use Rattle.line.specs.Kinds.{kind_no}
 use Rattle.line.specs.Words.{field_of}
-use Rattle.line.specs.Fields.{clip, val_of, value_at}
+use Rattle.line.specs.Fields.{clip, val_of, value_at, negative_of}
 use Rattle.line.specs.Quick.{Clean, Stood, DigitsTo, NumberAs, HexTo, PieceTo, GotAs, Dashed}
-use Rattle.line.proofs.ValueLaws.{dash-is, dash-not, dash-other, within_in, var-number, name-fine, name-says, float-fine, optional-dash, optional-some, alias-dash, bound-dash}
+use Rattle.line.proofs.ValueLaws.{dash-is, dash-not, dash-other, within_in, var-number, name-fine, name-says, float-fine, optional-dash, optional-some, alias-dash, bound-dash, negative-small, negative-in, positive-small, positive-in, signed-minus, signed-plain}
 
 -- ## No comma and no LF
 
@@ -225,11 +227,66 @@ dashed-bound l t d = bound-dash t l d
 
 -- ## Any piece
 
-pub piece-start : (s : Bytes) (at : ℕ) → at ≤ length s → PieceTo s at at
-piece-start s at h = record { from = omega arith; within = h; clean = clean-none s at }
+-- the first element that passes a test, or none
+abbrev found_first : (ℕ → Bool) → Bytes → Maybe ℕ
+found_first p l = cond (ltb (position_or_len p l) (length l)) (Some (position_or_len p l)) None
 
-pub piece-on : (s : Bytes) (at i : ℕ) → PieceTo s at i → i < length s → (get_or s i 0 ≡ 44 → ⊥) → (get_or s i 0 ≡ 10 → ⊥) → PieceTo s at (i + 1)
-piece-on s at i d h a b = record { from = omega (arith, d.from); within = omega arith; clean = clean-on s at i d.clean a b }
+module _ (p : ℕ → Bool) (l : Bytes) where
+  found-some : (i : ℕ) → Some i ≡ found_first p l → (i < length l) × ((k : ℕ) → k < i → p (get_or l k 0) ≡ false)
+  found-some i e = go (ltb (position_or_len p l) (length l)) refl e
+    where
+      go : (b : Bool) → ltb (position_or_len p l) (length l) ≡ b → Some i ≡ cond b (Some (position_or_len p l)) None → (i < length l) × ((k : ℕ) → k < i → p (get_or l k 0) ≡ false)
+      go true f q = let z : i ≡ position_or_len p l = cc in (omega (arith, ltb-true (position_or_len p l) (length l) f), λ k h. fails_before_first p l k 0 (omega arith))
+      go false f q = absurd (let z : ⊥ = cc in z)
+
+  found-none : None ≡ found_first p l → (k : ℕ) → k < length l → p (get_or l k 0) ≡ false
+  found-none e = go (ltb (position_or_len p l) (length l)) refl e
+    where
+      go : (b : Bool) → ltb (position_or_len p l) (length l) ≡ b → None ≡ cond b (Some (position_or_len p l)) None → (k : ℕ) → k < length l → p (get_or l k 0) ≡ false
+      go true f q k h = absurd (let z : ⊥ = cc in z)
+      go false f q k h = fails_before_first p l k 0 (omega (arith, ltb-false (position_or_len p l) (length l) f))
+
+-- a comma or an LF
+abbrev pub is_end : ℕ → Bool
+is_end c = eqb c 44 || eqb c 10
+
+no-end : (c : ℕ) → is_end c ≡ false → (c ≡ 44 → ⊥) × (c ≡ 10 → ⊥)
+no-end c e = go (eqb c 44) refl (eqb c 10) refl e
+  where
+    go : (a : Bool) → eqb c 44 ≡ a → (b : Bool) → eqb c 10 ≡ b → (a || b) ≡ false → (c ≡ 44 → ⊥) × (c ≡ 10 → ⊥)
+    go true x b y q = absurd (let z : ⊥ = cc in z)
+    go false x true y q = absurd (let z : ⊥ = cc in z)
+    go false x false y q = (eqb-false c 44 x, eqb-false c 10 y)
+
+-- the bytes of a part that does not end a piece
+module _ (s : Bytes) (at : ℕ) (h : at ≤ length s) where
+  clean-part : (n : ℕ) → ((k : ℕ) → k < n → is_end (get_or (drop at s) k 0) ≡ false) → Clean s at (at + n)
+  clean-part n f i p q =
+      let place : at + (i - at) ≡ i = omega arith in
+      no-end (get_or s i 0) (ap is_end (sym (get_or-drop at s (i - at) 0 ∙ ap (λ (j : ℕ). get_or s j 0) place)) ∙ f (i - at) (omega arith))
+
+  pub piece-there : (i : ℕ) → Some i ≡ cond (ltb (position_or_len is_end (drop at s)) (length (drop at s))) (Some (position_or_len is_end (drop at s))) None → PieceTo s at (at + i)
+  piece-there i e =
+      let w = found-some is_end (drop at s) i e in
+      record { from = omega arith; within = omega (arith, w.0, length-drop at s); clean = clean-part i w.1 }
+
+  pub piece-open : None ≡ cond (ltb (position_or_len is_end (drop at s)) (length (drop at s))) (Some (position_or_len is_end (drop at s))) None → PieceTo s at (length s)
+  piece-open e =
+      let z : at + (length s - at) ≡ length s = omega arith in
+      record { from = h; within = omega arith; clean = rw z at (clean-part (length s - at) (λ k l. found-none is_end (drop at s) e k (omega (arith, l, length-drop at s)))) }
+
+  -- letters up to a byte that is none
+  pub letters-stood : (i : ℕ) → Some i ≡ cond (ltb (position_or_len (λ x. ltb x 97) (drop at s)) (length (drop at s))) (Some (position_or_len (λ x. ltb x 97) (drop at s))) None → Stood s at (at + i)
+  letters-stood i e =
+      let w = found-some (λ x. ltb x 97) (drop at s) i e in
+      record {
+        from = omega arith;
+        inside = omega (arith, w.0, length-drop at s);
+        clean = clean-part i (λ k l. letter (get_or (drop at s) k 0) (ltb-false (get_or (drop at s) k 0) 97 (w.1 k l)));
+      }
+    where
+      letter : (c : ℕ) → 97 ≤ c → is_end c ≡ false
+      letter c g = rw (ne_eqb c 44 (λ e. omega arith), ne_eqb c 10 (λ e. omega arith))
 
 pub other-got : (s : Bytes) (at r l n : ℕ) (shape : Shape) → PieceTo s at r → r < length s → Ok n ≡ val_of (value_at (field_of shape) l (take (r - at) (drop at s)))
     → GotAs s at shape l (Some (record { end = r; n = n }))
@@ -251,3 +308,48 @@ kind-got s at l k h e = letter-got s at (get_or s at 0) (kind_no k) l h refl (λ
 
     no-letter : (c : ℕ) → lettered (c ∷ []) ≡ wrong 3 → get_or s at 0 ≡ c → ⊥
     no-letter c w z = let q : wrong 3 ≡ number (kind_no k) = sym w ∙ ap (λ (d : ℕ). lettered (d ∷ [])) (sym z) ∙ e in let y : ⊥ = cc in y
+
+-- ## A signed number
+
+clean-before : (s : Bytes) (at e : ℕ) → (get_or s at 0 ≡ 44 → ⊥) → (get_or s at 0 ≡ 10 → ⊥) → Clean s (at + 1) e → Clean s at e
+clean-before s at e h k c i p q = go (dec_lt at i)
+  where
+    go : Dec (at < i) → (get_or s i 0 ≡ 44 → ⊥) × (get_or s i 0 ≡ 10 → ⊥)
+    go (yes l) = c i (omega arith) q
+    go (no l) = let z : i ≡ at = omega arith in rw z (h, k)
+
+number-long : (t : Bytes) (m n : ℕ) → Ok n ≡ val_of (within 0 m (decimal t) number) → 0 < length t
+unfolding decimal within
+number-long [] m n e = absurd (let z : ⊥ = cc in z)
+number-long (c ∷ t) m n e = omega arith
+
+module _ (s : Bytes) (at l : ℕ) (r : Got) where
+  pub minus-small : GotAs s (at + 1) (Range 0 9223372036854775808) l (Some r) → r.n ≤ 9223372036854775808
+  unfolding value_at
+  minus-small g = negative-small _ _ g.1
+
+  pub minus-got : get_or s at 0 ≡ 45 → GotAs s (at + 1) (Range 0 9223372036854775808) l (Some r) → (r.n ≡ 0 → ⊥)
+      → GotAs s at Signed l (Some (record { end = r.end; n = 9223372036854775808 - r.n }))
+  unfolding value_at
+  minus-got e g z =
+      let t : Bytes = slice at r.end s in
+      let long : length t ≡ r.end - at = length-slice at r.end s (omega (arith, g.0.inside)) in
+      let whole : take (length t - 1) (drop 1 t) ≡ slice (at + 1) r.end s = take_all (length t - 1) (drop 1 t) (omega (arith, length-drop 1 t)) ∙ drop-slice 1 at r.end s in (
+        record { from = omega (arith, g.0.from); inside = g.0.inside; clean = clean-before s at r.end (λ q. omega (arith, e)) (λ q. omega (arith, e)) g.0.clean },
+        negative-in (decimal (slice (at + 1) r.end s)) r.n g.1 z ∙ ap (λ (x : Bytes). val_of (negative_of (decimal x))) (sym whole)
+            ∙ signed-minus t (omega (arith, long, g.0.from)) (first_of s at r.end (omega (arith, g.0.from)) ∙ e),
+      )
+
+  pub plus-small : GotAs s at (Range 0 9223372036854775807) l (Some r) → r.n ≤ 9223372036854775807
+  unfolding value_at
+  plus-small g = positive-small _ _ g.1
+
+  pub plus-got : (get_or s at 0 ≡ 45 → ⊥) → GotAs s at (Range 0 9223372036854775807) l (Some r) → GotAs s at Signed l (Some (record { end = r.end; n = 9223372036854775808 + r.n }))
+  unfolding value_at
+  plus-got other g =
+      let t : Bytes = slice at r.end s in
+      let long : length t ≡ r.end - at = length-slice at r.end s (omega (arith, g.0.inside)) in
+      let some = number-long t 9223372036854775807 r.n g.1 in (
+        g.0,
+        positive-in (decimal t) r.n g.1 ∙ signed-plain t some (λ q. other (sym (first_of s at r.end (omega (arith, long, some))) ∙ q)),
+      )

@@ -8,7 +8,7 @@ use native.Mathlib.Omega.{arith}
 use lib.Dec.{eqb, leb, ltb}
 use lib.ListN.{length, get_or, take, drop, length-map}
 use lib.Seq.{take_all}
-use borrow.Author.Tests.{ne_eqb, eq-eqb, le-leb, lt-leb, leb-true, ltb-true, ltb-false}
+use borrow.Author.Tests.{ne_eqb, eq-eqb, le-leb, leb-true, ltb-true, ltb-false}
 use Rattle.std.specs.Prelude.{Result, Ok, Err}
 use Rattle.semantics.specs.Limits.{name_limit, variable_limit, bound_limit}
 use Rattle.semantics.specs.Bytes.{Bytes, same, decimal, unhex}
@@ -21,7 +21,7 @@ use Rattle.semantics.specs.declared.refusals.Refusal.TheVariants.{BadlyWritten, 
 use Rattle.semantics.specs.Sheet.{optional, alias, is_dash, Value, wrong, number, variable_v, name_v, alias_v, within, named, signed_of, float_of, bound_of}
 use Rattle.text.specs.declared.DecimalError.{DecimalError}
 use Rattle.text.specs.declared.DecimalError.TheVariants.{Bad, Over}
-use Rattle.text.specs.Text.{is_found, dec_of, capped, refusal_of}
+use Rattle.text.specs.Text.{is_found, dec_of, capped, refusal_of, named_of}
 use Rattle.line.specs.Fields.{clip, val_of, said_of, decimal_of, value_at, negative_of, positive_of}
 
 -- ## A dash
@@ -226,32 +226,32 @@ some_is : (o : Option Bytes) → is_found o ≡ true → (ds : Bytes) × (o ≡ 
 some_is none e = absurd (let z : ◌≡◌ {A = ℕ} 0 1 = cc in omega arith)
 some_is (some ds) e = (ds, refl)
 
+-- a name by its own test
+name-is : (o : Option Bytes) (n : ℕ) (r : Result (Unit {0}) Refusal) → r ≡ named_of o → said_of (named o name_v) n ≡ elim r [ Ok u ↦ Ok n | Err why ↦ Err why ]
+unfolding named named_of
+name-is none n r e = rw e
+name-is (some ds) n r e = rw e (go (eqb (length ds % 2) 0) (leb (length ds) (2 * name_limit)))
+  where
+    go : (p q : Bool)
+        → said_of (elim p [ true ↦ elim q [ true ↦ name_v ds | false ↦ wrong 4 ] | false ↦ wrong 3 ]) n
+        ≡ elim (cond p (cond q (Ok (tt {0})) (Err OutOfRange)) (Err BadlyWritten)) [ Ok u ↦ Ok n | Err why ↦ Err why ]
+    go true true = refl
+    go true false = refl
+    go false q = refl
+
 module _ (s : Bytes) (n : ℕ) where
-  pub name-bad : false ≡ is_found (unhex s) → Err BadlyWritten ≡ said_of (named (unhex s) name_v) n
+  pub name-ok : (u : Unit {0}) → Ok u ≡ named_of (unhex s) → Ok n ≡ said_of (named (unhex s) name_v) n
+  name-ok u e = sym (name-is (unhex s) n (Ok u) e)
+
+  pub name-err : (why : Refusal) → Err why ≡ named_of (unhex s) → Err why ≡ said_of (named (unhex s) name_v) n
+  name-err why e = sym (name-is (unhex s) n (Err why) e)
+
+  pub name-fine : true ≡ is_found (unhex s) → length s % 2 ≡ 0 → length s ≤ 510 → Ok n ≡ said_of (named (unhex s) name_v) n
   unfolding named
-  name-bad e = rw (some-not (unhex s) (sym e))
-
-  module _ (e : true ≡ is_found (unhex s)) where
-    pub name-odd : (length s % 2 ≡ 0 → ⊥) → Err BadlyWritten ≡ said_of (named (unhex s) name_v) n
-    unfolding named
-    name-odd h =
-        let d = some_is (unhex s) (sym e) in
-        let l = unhex-length s d.0 d.1 in
-        rw (d.1, l, ne_eqb (length s % 2) 0 h, named)
-
-    pub name-long : length s % 2 ≡ 0 → 510 < length s → Err OutOfRange ≡ said_of (named (unhex s) name_v) n
-    unfolding named
-    name-long h g =
-        let d = some_is (unhex s) (sym e) in
-        let l = unhex-length s d.0 d.1 in
-        rw (d.1, l, eq-eqb (length s % 2) 0 h, l, lt-leb (length s) (2 * name_limit) g, named)
-
-    pub name-fine : length s % 2 ≡ 0 → length s ≤ 510 → Ok n ≡ said_of (named (unhex s) name_v) n
-    unfolding named
-    name-fine h g =
-        let d = some_is (unhex s) (sym e) in
-        let l = unhex-length s d.0 d.1 in
-        rw (d.1, l, eq-eqb (length s % 2) 0 h, l, le-leb (length s) (2 * name_limit) g, named)
+  name-fine e h g =
+      let d = some_is (unhex s) (sym e) in
+      let l = unhex-length s d.0 d.1 in
+      rw (d.1, l, eq-eqb (length s % 2) 0 h, l, le-leb (length s) (2 * name_limit) g, named)
 
 module _ (s : Bytes) where
   pub float-bad : false ≡ is_found (unhex s) → Err BadlyWritten ≡ val_of (float_of (unhex s))

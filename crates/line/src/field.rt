@@ -3,19 +3,19 @@ ghost use Rattle.std.specs.Prelude.{◌≡◌, ◌<◌, get_or};
 ghost use Rattle.semantics.specs.Bytes.{decimal, unhex};
 ghost use Rattle.semantics.specs.Sheet.{number, name_v, is_dash, within, named, lettered, signed_of, float_of, bound_of, optional, alias};
 ghost use Rattle.line.specs.declared.shapes.Shape.TheVariants.{Variable, Optional};
-ghost use Rattle.line.specs.Words.{field_of};
+ghost use Rattle.line.specs.Words.{field_of, under_of};
+ghost use Rattle.line.specs.Line.{flag_at, count_at};
 ghost use Rattle.line.specs.Fields.{decimal_of, val_of, said_of, value_at, negative_of, positive_of, pushed, stored_in, seen_name, most_fields, nothing_yet, number_at};
 
 use crate::kinds::VarKind;
+use crate::rows::Under;
 use crate::shapes::Shape;
 use semantics::{BOUND_LIMIT, Refusal, SIGNED_SHIFT, VARIABLE_LIMIT};
 
-// Two digits for each byte of a name; those of a float; the greatest signed number; how many fields a line has at most.
-pub const NAME_DIGITS: usize = 2 * semantics::NAME_LIMIT;
-
+// The digits of a float; the greatest signed number; how many fields a line has at most.
 pub const FLOAT_DIGITS: usize = 16;
 
-const MOST_SIGNED: u64 = SIGNED_SHIFT - 1;
+pub const MOST_SIGNED: u64 = SIGNED_SHIFT - 1;
 
 pub const MOST_FIELDS: usize = 7;
 
@@ -48,7 +48,7 @@ fn ranged(text: &[u8], least: u64, most: u64) -> Result<u64, Refusal>
     Ok(n)
 }
 
-// A variable, or none.
+// A variable, or none, which says 0: the definitions number an absent variable so too (`variable_of`), and no one asks which it was.
 fn optional_value(text: &[u8]) -> Result<u64, Refusal>
     ensures { result ≡ val_of (value_at optional 0 text.now) }
 {
@@ -62,16 +62,11 @@ fn optional_value(text: &[u8]) -> Result<u64, Refusal>
 fn name_value(text: &[u8], n: u64) -> Result<u64, Refusal>
     ensures { result ≡ said_of (named (unhex text.now) name_v) n }
 {
-    if !text::all_hex(text) || text.len() % 2 != 0 {
-        return Err(Refusal::BadlyWritten);
-    }
-    if text.len() > NAME_DIGITS {
-        return Err(Refusal::OutOfRange);
-    }
+    text::check_name(text)?;
     Ok(n)
 }
 
-// A name, or none.
+// A name, which says 1, or none, which says 0: the line's number by the definitions, by which what hangs below is counted.
 fn alias_value(text: &[u8]) -> Result<u64, Refusal>
     ensures { result ≡ val_of (value_at alias 0 text.now) }
 {
@@ -81,7 +76,7 @@ fn alias_value(text: &[u8]) -> Result<u64, Refusal>
     name_value(text, 1)
 }
 
-// A bound, one more than it is: with `l` 0 only `-`.
+// A bound, one more than it is, and 0 for `-`: the number by the definitions (`bound_of`). With `l` 0 there is only `-`.
 fn bound_value(text: &[u8], l: u64) -> Result<u64, Refusal>
     ensures { result ≡ val_of (bound_of l text.now) }
 {
@@ -166,7 +161,9 @@ pub fn read_value(text: &[u8], shape: Shape, l: u64) -> Result<u64, Refusal>
     }
 }
 
-// What a line's fields say so far: the variable; the numbers in order, and how many there are; where the name stands.
+// What a line's fields say so far: the variable; the numbers in order, and how many there are; where the name stands. The numbers have
+// fixed memory and a count, since nothing is on the heap. What no field says is 0, as in the definitions (`variable_of`, `num`): which
+// fields there are is settled by the word's row, so that an `Option` would be opened where there is nothing to ask.
 #[derive(Drop)]
 pub struct Fields {
     pub var: VarId,
@@ -174,6 +171,13 @@ pub struct Fields {
     pub put: usize,
     pub name: usize,
     pub stop: usize,
+}
+
+// What hangs below a line goes by two of its numbers: the flag number, and the count; 0 where the line has none.
+#[derive(Clone, Copy)]
+pub struct Hung {
+    pub flag: u64,
+    pub count: u64,
 }
 
 impl Fields {
@@ -191,12 +195,41 @@ impl Fields {
     }
 
     // The number at an index, 0 where there is none.
-    pub fn number(&self, at: Option<u8>) -> u64
-        ensures { result ≡ number_at self.now.nums at }
+    #[inline(always)]
+    pub fn number(&self, at: u8) -> u64
+        ensures { result ≡ get_or self.now.nums at 0 }
     {
-        match at {
-            Some(i) if usize::from(i) < MOST_FIELDS => self.nums[usize::from(i)],
-            _ => 0,
+        let i = usize::from(at);
+        if i < MOST_FIELDS { self.nums[i] } else { 0 }
+    }
+
+    // What the numbers say of the lines that hang below.
+    #[inline(always)]
+    pub fn hung(&self, under: Under) -> Hung
+        ensures { (result.flag ≡ number_at self.now.nums (flag_at (under_of under))) × (result.count ≡ number_at self.now.nums (count_at (under_of under))) }
+    {
+        match under {
+            Under::Nothing | Under::Two | Under::One(_) => Hung { flag: 0, count: 0 },
+            Under::Bounds => Hung {
+                flag: self.number(0),
+                count: 0,
+            },
+            Under::Arms => Hung {
+                flag: self.number(0),
+                count: self.number(1),
+            },
+            Under::Times(count, _) | Under::OneTimes(count, _) => Hung {
+                flag: 0,
+                count: self.number(count),
+            },
+            Under::TimesThen(count, _, flag) => Hung {
+                flag: self.number(flag),
+                count: self.number(count),
+            },
+            Under::Around(_, flag) | Under::OneThen(flag) => Hung {
+                flag: self.number(flag),
+                count: 0,
+            },
         }
     }
 
@@ -223,8 +256,8 @@ impl Fields {
         ensures { self.new ≡ stored_in (field_of shape) self.old from to n }
     {
         match shape {
-            Shape::Variable => self.var = VarId(n as u32),
-            Shape::Optional => self.var = VarId(n as u32),
+            // The number of a variable, which fits.
+            Shape::Variable | Shape::Optional => self.var = VarId(n as u32),
             Shape::Name | Shape::Float => self.name_at(from, to),
             Shape::Alias => {
                 self.push(n);

@@ -3,7 +3,7 @@ ghost use Rattle.std.specs.Prelude.{◌≤◌, ◌<◌, length, IfSome};
 ghost use Rattle.line.specs.Opening.{OpensAs, BehindAs};
 
 use crate::line::read_line;
-use crate::quick::lead_long;
+use crate::quick::lead_of;
 use crate::words::{Word, word_of};
 use text::{COMMA, LINE_END};
 
@@ -19,7 +19,7 @@ fn opening_seen(sheet: &[u8], at: usize) -> Option<Opening>
     requires { at ≤ length sheet.now }
     ensures { IfSome result (λ r. OpensAs sheet.now at r) }
 {
-    let lead = lead_long(sheet, at)?;
+    let lead = lead_of(sheet, at)?;
     let word = word_of(lead.code)?;
     let from = lead.end;
     match sheet[from] {
@@ -53,7 +53,7 @@ pub fn opening_of(sheet: &[u8], at: usize) -> Opening
 
 // Where the line starts that stands behind the line of which `from` is a place.
 pub fn line_behind(sheet: &[u8], from: usize) -> usize
-    requires { (from ≤ length sheet.now) × (length sheet.now < 4294967294) }
+    requires { from ≤ length sheet.now }
     ensures { BehindAs sheet.now from result }
 {
     text::line_end(sheet, from) + 1

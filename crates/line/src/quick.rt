@@ -6,7 +6,7 @@ ghost use Rattle.line.specs.Known.{FineAt, FineBehind, PieceFine};
 use crate::field::Fields;
 use crate::in_place::{Got, field_at};
 use crate::known::known_field;
-use crate::line::{Head, head_of};
+use crate::line::{Head, head_of, word_code};
 use crate::rows::row_of;
 use crate::shapes::Shape;
 use crate::words::{Word, word_of};
@@ -29,8 +29,10 @@ pub struct Lead {
     pub end: usize,
 }
 
-// Most words have three letters or four: those are read without a loop, which takes half the time.
-fn lead_of(sheet: &[u8], at: usize) -> Option<Lead>
+// Most words have three letters or four: those are read without a loop. With `lead_long` alone the lines of a mixed sheet took 24 % more
+// instructions.
+#[inline(always)]
+pub fn lead_of(sheet: &[u8], at: usize) -> Option<Lead>
     requires { at ≤ length sheet.now }
     ensures { LeadAs sheet.now at result }
 {
@@ -40,7 +42,7 @@ fn lead_of(sheet: &[u8], at: usize) -> Option<Lead>
     let a = sheet[at];
     let b = sheet[at + 1];
     let c = sheet[at + 2];
-    if a < b'a' || b < b'a' || c < b'a' {
+    if a.min(b).min(c) < b'a' {
         return lead_long(sheet, at);
     }
     let code = THREE_LETTERS + u64::from(a) * TWO_BYTES + u64::from(b) * BYTE + u64::from(c);
@@ -58,26 +60,18 @@ fn lead_of(sheet: &[u8], at: usize) -> Option<Lead>
 }
 
 // The same for a word of any length.
-pub fn lead_long(sheet: &[u8], at: usize) -> Option<Lead>
+fn lead_long(sheet: &[u8], at: usize) -> Option<Lead>
     requires { at ≤ length sheet.now }
     ensures { LeadAs sheet.now at result }
 {
-    let mut code: u64 = 1;
-    for i in at..sheet.len() {
-        let b = sheet[i];
-        if b < b'a' {
-            return Some(Lead { code, end: i });
-        }
-        if code >= FULL {
-            return None;
-        }
-        code = code * BYTE + u64::from(b);
-    }
-    None
+    let letters = sheet[at..].iter().position(|b| *b < b'a')?;
+    let end = at + letters;
+    let code = word_code(&sheet[at..end])?;
+    Some(Lead { code, end })
 }
 
 // The field of a shape at `at`, if nothing is wrong with it, where the line's second number is `l`. One that is known to be fine is
-// read with fewer tests.
+// read with fewer tests: read as any other, the lines of a mixed sheet took 22 % more instructions, those of long names three times as many.
 fn quick_field<const FINE: bool>(sheet: &[u8], at: usize, shape: Shape, l: u64) -> Option<Got>
     requires { (at ≤ length sheet.now) × (FINE ≡ true → PieceFine sheet.now at shape l) }
     ensures { GotAs sheet.now at shape l result }
@@ -102,7 +96,7 @@ fn quick_fields<const FINE: bool>(sheet: &[u8], end: usize, word: Word) -> Optio
         if sheet[at] != COMMA {
             return None;
         }
-        let second = fields.number(Some(1));
+        let second = fields.number(1);
         let got = quick_field::<FINE>(sheet, at + 1, *shape, second)?;
         fields.store(*shape, at + 1, got.end, got.n);
         at = got.end;

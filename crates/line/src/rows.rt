@@ -2,7 +2,6 @@
 ghost use Rattle.std.specs.Prelude.{◌≡◌, true, map};
 ghost use Rattle.semantics.specs.Sheet.{row, nothing};
 ghost use Rattle.line.specs.Words.{word_of, place_of, field_of, under_of};
-ghost use Rattle.line.specs.Line.{flag_at, count_at};
 ghost use Rattle.line.specs.Rows.{RowAs};
 
 use crate::places::Place;
@@ -31,30 +30,6 @@ pub enum Under {
     OneThen(u8),
     // An expression, and so many lines of a place as the number at the index.
     OneTimes(u8, Place),
-}
-
-impl Under {
-    // Where the flag number stands among the line's numbers.
-    pub fn flag_at(self) -> Option<u8>
-        ensures { result ≡ flag_at (under_of self) }
-    {
-        match self {
-            Under::Bounds | Under::Arms => Some(0),
-            Under::TimesThen(_, _, at) | Under::Around(_, at) | Under::OneThen(at) => Some(at),
-            _ => None,
-        }
-    }
-
-    // Where the count does.
-    pub fn count_at(self) -> Option<u8>
-        ensures { result ≡ count_at (under_of self) }
-    {
-        match self {
-            Under::Arms => Some(1),
-            Under::Times(at, _) | Under::TimesThen(at, _, _) | Under::OneTimes(at, _) => Some(at),
-            _ => None,
-        }
-    }
 }
 
 // A word's row: where its line may stand, the shapes of its fields in order, and what hangs below.
@@ -361,6 +336,7 @@ pub fn row_of(word: Word) -> &'static Row
 }
 
 // Where the word may stand.
+#[inline(always)]
 pub fn place_of(word: Word) -> Place
     ensures { place_of result ≡ (row (word_of word)).place }
 {
@@ -368,6 +344,7 @@ pub fn place_of(word: Word) -> Place
 }
 
 // Whether nothing can stand below the word's line.
+#[inline(always)]
 pub fn is_leaf(word: Word) -> bool
     ensures { result ≡ true → (row (word_of word)).under ≡ nothing }
 {

@@ -1,5 +1,5 @@
 -- The call that makes an old line regular. Assumes nothing.
-use mathlib.Core.Path.{◌≡◌, refl, sym, ◌∙◌, ap, subst}
+use mathlib.Core.Path.{◌≡◌, refl, sym, ◌∙◌, ap, ap₂, subst}
 use mathlib.Core.List.{[], ◌++◌}
 use mathlib.Core.Option.{Option, none, some}
 use mathlib.Core.Bool.{Bool, true, false, not, false≢true}
@@ -9,12 +9,13 @@ use native.Mathlib.Omega.{arith}
 use lib.ListN.{length, take, drop}
 use lib.Seq.{sets}
 use borrow.Author.Tests.{eq-eqb, ne_eqb, lt-ltb, not-true}
-use Rattle.std.specs.Prelude.{Option as StdOption, Some, None, Ok, Err}
+use Rattle.std.specs.Prelude.{Option as StdOption, Some, None, Result, Ok, Err}
+use Rattle.semantics.specs.declared.refusals.Refusal.{Refusal}
 use Rattle.semantics.specs.declared.refusals.Refusal.TheVariants.{WrongSize, OutputTooShort, NoOldLine, TypeTooLarge}
 use Rattle.semantics.specs.Limits.{work_size, nesting_limit}
 use Rattle.semantics.specs.Bytes.{Bytes}
 use Rattle.semantics.specs.Ty.{Ty, line, too_large, type_line}
-use Rattle.semantics.specs.Calls.{written, cleared}
+use Rattle.semantics.specs.Calls.{Settled, zeros, written, cleared}
 use Rattle.semantics.proofs.Reader.{read-sound}
 use Rattle.unify_run.proofs.Size.{small-sound}
 use Rattle.text.specs.Text.{is_found}
@@ -82,6 +83,15 @@ call-given s work out size room b f n out' r (z, o) =
     let (is, _, small, _) = read-sound s g.ty g.read in
     let x : s ≡ line (made g.ty) = sym is ∙ ap line (sym stays) in
     call-done s work out size room g.ty read (ap too_large stays ∙ small) out' (o ∙ ap (sets out 0) x) r (z ∙ zero-add (length s) ∙ ap length x)
+
+-- ## What is left of the buffers
+
+module _ (u : Settled) (work out out' : Bytes) (r : Result ℕ Refusal) (w : Bytes) (h : Settles u work out out' r) (z : w ≡ zeros work) where
+  pub settled-ok : (n : ℕ) → r ≡ Ok n → settled_by (Ok n) w out' ≡ u
+  settled-ok n e = ap (λ (l : Bytes). settled_by (Ok n) l out') z ∙ sym (subst (Settles u work out out') e h)
+
+  pub settled-err : (why : Refusal) (o : Bytes) → r ≡ Err why → o ≡ zeros out → settled_by (Err (record { why = why; place = 0 })) w o ≡ u
+  settled-err why o e k = ap₂ (λ (l m : Bytes). settled_by (Err (record { why = why; place = 0 })) l m) z k ∙ sym (subst (Settles u work out out') e h)
 
 -- ## What is made
 

@@ -27,7 +27,17 @@ use Rattle.ty.specs.Entry.{Fronted, inserted_at}
 use Rattle.ty.specs.Made.{made as grown_by}
 use Rattle.ty.proofs.Lines.{line-to, name-to, hex-bytes}
 use Rattle.ty.proofs.NameLaws.{name-long, name-append, name-ends, name_part, lex-hex}
-use Rattle.old.specs.Make.{StartIn, LabelsFront, SomeLabel, LabelGoes, LabelSpotted, LabelAdded}
+use Rattle.text.specs.Text.{Starts}
+use Rattle.old.specs.Make.{LabelsFront, SomeLabel, LabelGoes, LabelSpotted, LabelAdded}
+
+-- a place from lo to hi that is lo or stands behind a comma
+pub record StartIn (w : Bytes) (lo hi r : ℕ) : Type 0 where
+  pub from : lo ≤ r
+  pub inside : r < hi
+  pub comma : lo < r → get_or w (r - 1) 0 ≡ 44
+
+pub start-in : {w : Bytes} {lo mid r : ℕ} (hi : ℕ) → mid < hi → Starts 44 w lo mid r → StartIn w lo hi r
+start-in hi h s = record { from = s.after; inside = omega (arith, h, s.upto); comma = s.edge }
 
 -- ## Labels one after the other
 

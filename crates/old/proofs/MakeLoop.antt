@@ -34,7 +34,8 @@ use Rattle.ty.proofs.Members.{union-line, members-pack, line-long}
 use Rattle.ty.proofs.UnionGrows.{overlong-large}
 use Rattle.old_lines.specs.Old.{distinct, distinct_names, distinct_names_s, distinct_names_f, made, made_s}
 use Rattle.old.specs.declared.RegularType.{RegularType}
-use Rattle.old.specs.Read.{Within, end_of}
+use Rattle.old.specs.Read.{Within}
+use Rattle.ty.specs.Read.{parts_end}
 use Rattle.old.specs.Make.{made_by, MadeAs, OldAt, MakesAt, Acc, opening, listed, mapped, united, acc_kind, AccAt, joined_by, acc_large, acc_long, acc_type, start_of, StartedAs, Join, SomeJoin, JoinedAs, Joins, Ending, SomeEnding}
 use Rattle.old.specs.Make.{Ends as Ended}
 use Rattle.old_lines.proofs.Alike.{first-true, second-true}
@@ -315,8 +316,8 @@ record Over (s : Bytes) (k q : ℕ) (r : Bytes) (whole : Ty) (a : Acc) : Type 0 
   kind : k ≡ acc_kind a
   some : a ≡ opening → ⊥
   is : acc_type a ≡ made whole
-  behind : drop (end_of k q) s ≡ r
-  inside : end_of k q ≤ length s
+  behind : drop (parts_end k q) s ≡ r
+  inside : parts_end k q ≤ length s
 
 abbrev is_opening : Acc → Bool
 is_opening opening = true
@@ -325,7 +326,7 @@ is_opening (mapped fs) = false
 is_opening (united ms) = false
 
 parts-over : (s : Bytes) (q : ℕ) {k i l : ℕ} {x r : Bytes} {whole : Ty} {a : Acc} → goes_in k s q i ≡ false → drop q s ≡ x → q ≤ length s → Parts i l x r whole a k → Over s k q r whole a
-unfolding goes_in fields_to members_to end_of set_all made gather head_to
+unfolding goes_in fields_to members_to set_all made gather head_to
 parts-over s q {i = i} g x o (the_one t z e w m) = absurd (eqb-false i 0 g z)
 parts-over s q g x o (over u z e m) = record { kind = refl; some = λ h. false≢true (ap is_opening h); is = sym m; behind = x ∙ e; inside = o }
 parts-over s q {r = r} g x o (some_entries ∅ᶠ gs e f d h w m) =
@@ -350,10 +351,10 @@ module _ (s w : Bytes) (at left k q i n : ℕ) (ty : Ty) (rest : Bytes) (m : Mak
   end-ready h = record { acc = m.acc; ending = the_end h }
 
   pub finished : 3096 ≤ length w → drop at s ≡ line_to ty rest → (w₀ w' : Bytes) → length w ≡ length w₀ → (gr : Option ℕ) → Ended k w w' n gr → (r : Option RegularType)
-      → r ≡ option_map (at_end (end_of k q)) gr → MadeAs w₀ w' (at + length (line ty)) (made ty) r
+      → r ≡ option_map (at_end (parts_end k q)) gr → MadeAs w₀ w' (at + length (line ty)) (made ty) r
   finished h d w₀ w' l gr f r o =
       let a = f m.acc (the_end h) in
-      let place : end_of k q ≡ at + length (line ty) = omega (arith, type-inside s at ty rest d, length-drop (end_of k q) s, ap length done.behind, done.inside) in
+      let place : parts_end k q ≡ at + length (line ty) = omega (arith, type-inside s at ty rest d, length-drop (parts_end k q) s, ap length done.behind, done.inside) in
       let b : Stands w w' 0 (made ty) gr = subst (λ (u : Ty). Stands w w' 0 u gr) done.is a in
       record {
         answer = o ∙ ap₂ ended_by b.answer place ∙ ended-made (too_large (made ty)) (length (line (made ty))) (at + length (line ty));

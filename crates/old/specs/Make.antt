@@ -1,5 +1,5 @@
 -- What is made of an old type at the front of the work area: what the contracts of labels.rt and making.rt cite.
-use Rattle.std.specs.Prelude.{ℕ, ◌+◌, ◌-◌, ◌≤◌, ◌<◌, ◌≡◌, List, [], ◌∷◌, ◌++◌, map, Bool, true, false, cond, eqb, length, take, drop, get_or, Option, Some, None}
+use Rattle.std.specs.Prelude.{ℕ, ◌+◌, ◌≤◌, ◌<◌, ◌≡◌, List, [], ◌∷◌, ◌++◌, map, Bool, true, false, cond, eqb, length, take, drop, Option, Some, None}
 use Rattle.std.proofs.Math.Option.{some}
 use Rattle.semantics.specs.Codes.{comma as comma_byte, list_letter, map_letter, union_letter}
 use Rattle.semantics.specs.Limits.{nesting_limit, type_limit}
@@ -48,12 +48,6 @@ abbrev pub Copies : Bytes → Bytes → Bytes → ℕ → Option RegularType →
 Copies s w w' at r = (t : Ty) (rest : Bytes) → drop at s ≡ line_to t rest → made t ≡ t → too_large t ≡ false → MadeAs w w' (at + length (line t)) (made t) r
 
 -- ## Labels
-
--- a place from lo to hi that is lo or stands behind a comma
-pub record StartIn (w : Bytes) (lo hi r : ℕ) : Type 0 where
-  pub from : lo ≤ r
-  pub inside : r < hi
-  pub comma : lo < r → get_or w (r - 1) 0 ≡ comma_byte
 
 -- the node type of ascending labels stands at the front
 pub record LabelsFront (w : Bytes) (n : ℕ) (ls : List Bytes) : Type 0 where

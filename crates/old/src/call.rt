@@ -1,19 +1,19 @@
 // The call that makes an old type line regular.
 ghost use Rattle.std.specs.Prelude.{◌≡◌, ◌≤◌, length};
-ghost use Rattle.semantics.specs.Limits.{work_size, type_limit};
+ghost use Rattle.semantics.specs.Limits.{type_limit};
 ghost use Rattle.old_lines.specs.Old.{regular_call};
 ghost use Rattle.old.specs.Call.{settled_by, SomeOld, Settles};
 
 use crate::making::regular;
 use crate::reader::is_old_line;
-use semantics::{Refusal, Refused};
+use semantics::{Refusal, Refused, WORK_SIZE};
 
 // Bytes of output that the call asks for (cause 7).
 const OLD_OUTPUT: usize = 1024;
 
 // The regular line of an old one to the output: how long it is.
-fn write_regular(s: &[u8], work: &mut [u8], out: &mut [u8]) -> Result<usize, Refusal>
-    requires { SomeOld s.now × (length work.old ≡ work_size) × (type_limit ≤ length out.old) }
+fn write_regular(s: &[u8], work: &mut [u8; WORK_SIZE], out: &mut [u8]) -> Result<usize, Refusal>
+    requires { SomeOld s.now × (type_limit ≤ length out.old) }
     ensures { Settles (regular_call s.now work.old out.old)
         work.old out.old out.new result }
 {
@@ -23,8 +23,7 @@ fn write_regular(s: &[u8], work: &mut [u8], out: &mut [u8]) -> Result<usize, Ref
 
 // The same, with the tests before it. A line that is regular already takes one pass, and is written as it stands; of any other the strict reader
 // stops at the first part that is out of order.
-fn make_regular(s: &[u8], work: &mut [u8], out: &mut [u8]) -> Result<usize, Refusal>
-    requires { length work.old ≡ work_size }
+fn make_regular(s: &[u8], work: &mut [u8; WORK_SIZE], out: &mut [u8]) -> Result<usize, Refusal>
     ensures { Settles (regular_call s.now work.old out.old)
         work.old out.old out.new result }
 {
@@ -44,16 +43,13 @@ fn make_regular(s: &[u8], work: &mut [u8], out: &mut [u8]) -> Result<usize, Refu
 pub fn regular_line(s: &[u8], work: &mut [u8], out: &mut [u8]) -> Result<usize, Refused>
     ensures { settled_by result work.new out.new ≡ regular_call s.now work.old out.old }
 {
-    if work.len() != semantics::WORK_SIZE {
-        return Err(Refused {
-            why: Refusal::WrongSize,
-            place: 0,
-        });
-    }
+    let Some(work) = work.as_mut_array() else {
+        return Err(Refusal::WrongSize.into());
+    };
     let made = make_regular(s, work, out);
-    text::clear(work);
+    work.fill(0);
     if made.is_err() {
-        text::clear(out);
+        out.fill(0);
     }
-    made.map_err(|why| Refused { why, place: 0 })
+    Ok(made?)
 }

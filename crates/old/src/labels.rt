@@ -1,23 +1,11 @@
 // Labels in any order, with repeats, as a node type at the front of the work area: each goes to its place among those that stand there.
 ghost use Rattle.std.specs.Prelude.{◌≡◌, ◌+◌, ◌≤◌, ◌<◌, length};
-ghost use Rattle.old.specs.Make.{StartIn, SomeLabel, LabelSpotted, LabelAdded, SomeNames, LabelsMade};
+ghost use Rattle.old.specs.Make.{SomeLabel, LabelSpotted, LabelAdded, SomeNames, LabelsMade};
 
 use crate::RegularType;
 use std::cmp::Ordering;
 use text::COMMA;
 use ty::CLOSE;
-
-// The start of the label in the middle of those at [lo..hi).
-fn middle_label(work: &[u8], lo: usize, hi: usize) -> usize
-    requires { (lo < hi) × (hi ≤ length work.now) }
-    ensures { StartIn work.now lo hi result }
-{
-    let middle = lo + (hi - lo) / 2;
-    work[lo..middle]
-        .iter()
-        .rposition(|b| *b == COMMA)
-        .map_or(lo, |i| lo + i + 1)
-}
 
 // Where a label goes in the node type [0..n), None if it is there already: by halves of its bytes. The labels before lo come before it, those
 // from hi on behind it.
@@ -29,7 +17,8 @@ fn label_spot(work: &[u8], n: usize, name: &[u8]) -> Option<usize>
     let mut hi = n - 2;
     // (`binary_search_by` takes elements of one size, and labels have many.)
     while lo < hi {
-        let a = middle_label(work, lo, hi);
+        let middle = lo + (hi - lo) / 2;
+        let a = text::piece_start(work, lo, middle, COMMA);
         let c = text::field_end(work, a);
         match text::compare(&work[a..c], name) {
             Ordering::Less => {
@@ -64,6 +53,7 @@ pub fn regular_labels(s: &[u8], at: usize, work: &mut [u8]) -> Option<RegularTyp
 {
     let mut n = text::append(work, 0, b"L,+,!,");
     let mut q = at;
+    // (A label ends at its comma: there is no index to count.)
     while !ty::is_field(s, q, CLOSE) {
         let e = text::field_end(s, q);
         n = add_label(work, n, &s[q..e])?;

@@ -1,4 +1,4 @@
--- What is claimed of old lines and the call (RULES 10.3, ask 11). What is to be believed: `regular_call`, `old_line` (which text is an old line of which
+-- What is claimed of old lines and the call (docs/RULES.md, section 10.3). What is to be believed: `regular_call`, `old_line` (which text is an old line of which
 -- type), `Same` (what types mean, apart from any order), `type_line` (the strict reader, RULES 4.4).
 use Rattle.std.specs.Prelude.{◌≤◌, ◌≡◌, true, length, take}
 use Rattle.std.proofs.Math.Option.{some}

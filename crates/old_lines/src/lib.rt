@@ -1,4 +1,4 @@
-// Old type lines made regular (RULES 10.3, ask 11): the definition is specs/Old.antt, what is claimed of it specs/Claims.antt; this function
+// Old type lines made regular (docs/RULES.md, section 10.3): the definition is specs/Old.antt, what is claimed of it specs/Claims.antt; this function
 // promises the claims.
 #![tactic(auto)]
 

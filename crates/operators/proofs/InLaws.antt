@@ -26,12 +26,11 @@ use Rattle.walk_run.specs.Run.{told, or_much, end_in}
 use Rattle.exprs.specs.declared.state.Accumulator.{Accumulator}
 use Rattle.report.specs.declared.TypeFault.TheVariants.{E2013}
 use Rattle.report.specs.Report.{Adds, code_fault}
-use Rattle.report.specs.declared.Tally.{Tally}
+use Rattle.report.specs.declared.Report.{Report}
 use Rattle.report.proofs.ReportLaws.{adds_none}
-use Rattle.exprs.specs.declared.state.Typed.{Typed}
 use Rattle.std.specs.declared.option.Option.TheVariants.{Some, None}
 use Rattle.exprs.specs.End.{Ends, Settles, TwoAt, SomeTwo}
-use Rattle.operators.specs.Helpers.{SomeKinds, apart_faults, LetsIn}
+use Rattle.operators.specs.Helpers.{apart_faults, LetsIn}
 use Rattle.exprs.proofs.States.{second_at}
 use Rattle.operators.proofs.Meets.{left-operand, left-kind, right-kind, done-run, apart-run, large-run, ends-large, ends-settled, list-inner, slots-element, fine-element}
 
@@ -70,11 +69,11 @@ module _ {a b : Ty} {s : Bytes} {st : Accumulator} (h : TwoAt a b s st) (d : get
       in-plain a b (λ e. d (sym (right-kind h) ∙ e))
       ∙ ap (λ (x : Bool). told (base t_bool) (elim x [ true ↦ [] | false ↦ fault_2013 b ∷ [] ])) (sym (l b (right-kind h)) ∙ q)
 
-  pub in-free : {s' out : Bytes} {r : Typed} {n : Tally} → f ≡ true → Settles (base t_bool) s s' n r → Ends (end_in a b) s s' out out n (Some r)
+  pub in-free : {s' : Bytes} {y : Report} {r : ℕ} → f ≡ true → Settles (base t_bool) s s' r → Ends (end_in a b) s s' y y (Some r)
   in-free q g = ends-settled g (plain-faults true q) refl adds_none
 
-  pub in-fault : {s' out out' : Bytes} {r : Typed} {n m : Tally} → f ≡ false → ((u : Ty) → kind_of u ≡ get_or s st.len 0 → Adds (code_fault E2013 u ∷ []) out out' n m)
-      → Settles (base t_bool) s s' m r → Ends (end_in a b) s s' out out' n (Some r)
+  pub in-fault : {s' : Bytes} {y y' : Report} {r : ℕ} → f ≡ false → ((u : Ty) → kind_of u ≡ get_or s st.len 0 → Adds (code_fault E2013 u ∷ []) y y')
+      → Settles (base t_bool) s s' r → Ends (end_in a b) s s' y y' (Some r)
   in-fault q k g = ends-settled g (plain-faults false q) refl (k b (right-kind h))
 
 -- ## A list
@@ -140,13 +139,6 @@ module _ {s : Bytes} {st : Accumulator} (p : SomeTwo s st) (q : get_or s st.len 
     pub list-first : 0 < length el
     list-first = omega (arith, ap length (element-is p.at q w), line-two (element-of p.at q).ty)
 
-    pub list-kinds : SomeKinds (get_or s 0 0) (get_or el 0 0)
-    list-kinds =
-        record {
-          first = record { ty = p.left; is = left-kind p.at };
-          second = record { ty = (element-of p.at q).ty; is = element-kind p.at q w };
-        }
-
 -- a mismatch is the definition's answer
 verdict-apart : (v : Tested) (x y : Ty) → verdict v ≡ mismatch x y → v.answer ≡ Answer.mismatch x y
 unfolding verdict
@@ -173,48 +165,48 @@ module _ {a b : Ty} {s s₁ : Bytes} {st : Accumulator} {o : Unified} (w : Unifi
   element-run : Answered (verdict (unify a (element-of h q).ty)) s₁ (st.len + st.second) o
   element-run = w.answer a (element-of h q).ty (left-operand h) (element-of h q).operand
 
-  pub list_done : {s' out : Bytes} {m : Tally} {r : Typed} {e : ℕ} → o ≡ Ok e → Settles (base t_bool) s₁ s' m r → Ends (end_in a b) s s' out out m (Some r)
+  pub list_done : {s' : Bytes} {y : Report} {r e : ℕ} → o ≡ Ok e → Settles (base t_bool) s₁ s' r → Ends (end_in a b) s s' y y (Some r)
   list_done k g =
       let u = (element-of h q).ty in
       let (t, p, f) = done-run s₁ (st.len + st.second) (verdict (unify a u)) element-run k in
       ends-settled g (ap (end_in a) (element-of h q).is ∙ in-run a u (done t) p) w.below.long adds_none
 
-  pub list-apart : {s' out out' el : Bytes} {n m : Tally} {r : Typed} {i j : Span} → HandsBack (list_part s st) el → o ≡ Err (Mismatch i j)
-      → ((u v : Ty) → kind_of u ≡ get_or s 0 0 → kind_of v ≡ get_or el 0 0 → Adds (apart_faults u v) out out' n m)
-      → Settles (base t_bool) s₁ s' m r → Ends (end_in a b) s s' out out' n (Some r)
+  pub list-apart : {s' el : Bytes} {n n' : Report} {r : ℕ} {i j : Span} → HandsBack (list_part s st) el → o ≡ Err (Mismatch i j)
+      → ((u v : Ty) → kind_of u ≡ get_or s 0 0 → kind_of v ≡ get_or el 0 0 → Adds (apart_faults u v) n n')
+      → Settles (base t_bool) s₁ s' r → Ends (end_in a b) s s' n n' (Some r)
   list-apart z k d g =
       let u = (element-of h q).ty in
       let (x, y, p) = apart-run s₁ (st.len + st.second) (verdict (unify a u)) element-run k in
       ends-settled g (ap (end_in a) (element-of h q).is ∙ in-run a u (mismatch x y) p ∙ ap (told (base t_bool)) (in-apart a u x y p)) w.below.long (d a u (left-kind h) (element-kind h q z))
 
-  pub list-large : {out : Bytes} {m : Tally} → o ≡ Err TooLarge → Ends (end_in a b) s s₁ out out m None
-  list-large {m = m} k =
+  pub list-large : {y : Report} → o ≡ Err TooLarge → Ends (end_in a b) s s₁ y y None
+  list-large {y} k =
       let u = (element-of h q).ty in
       let p = large-run s₁ (st.len + st.second) (verdict (unify a u)) element-run k in
-      ends-large (ap (end_in a) (element-of h q).is ∙ in-run a u large p) w.below.long (adds_none {t = m})
+      ends-large (ap (end_in a) (element-of h q).is ∙ in-run a u large p) w.below.long (adds_none {r = y})
 
 -- ## The fault of a mismatch
 
-module _ (u v : Ty) {out : Bytes} {t : Tally} where
-  pub parted-first : is_open u ≡ true → Adds (apart_faults u v) out out t t
+module _ (u v : Ty) {r : Report} where
+  pub parted-first : is_open u ≡ true → Adds (apart_faults u v) r r
   parted-first e = go (is_open u) e
     where
-      go : (x : Bool) → x ≡ true → Adds (elim x [ true ↦ [] | false ↦ elim (is_open v) [ true ↦ [] | false ↦ fault_2012 u v ∷ [] ] ]) out out t t
+      go : (x : Bool) → x ≡ true → Adds (elim x [ true ↦ [] | false ↦ elim (is_open v) [ true ↦ [] | false ↦ fault_2012 u v ∷ [] ] ]) r r
       go true q = adds_none
       go false q = absurd (let z : ◌≡◌ {A = ℕ} 0 1 = cc in omega arith)
 
-  pub parted-second : is_open u ≡ false → is_open v ≡ true → Adds (apart_faults u v) out out t t
+  pub parted-second : is_open u ≡ false → is_open v ≡ true → Adds (apart_faults u v) r r
   parted-second e f = go (is_open u) (is_open v) e f
     where
-      go : (x y : Bool) → x ≡ false → y ≡ true → Adds (elim x [ true ↦ [] | false ↦ elim y [ true ↦ [] | false ↦ fault_2012 u v ∷ [] ] ]) out out t t
+      go : (x y : Bool) → x ≡ false → y ≡ true → Adds (elim x [ true ↦ [] | false ↦ elim y [ true ↦ [] | false ↦ fault_2012 u v ∷ [] ] ]) r r
       go true y p q = adds_none
       go false true p q = adds_none
       go false false p q = absurd (let z : ◌≡◌ {A = ℕ} 0 1 = cc in omega arith)
 
-pub parted-fault : (u v : Ty) {out out' : Bytes} {t t' : Tally} → is_open u ≡ false → is_open v ≡ false → Adds (fault_2012 u v ∷ []) out out' t t' → Adds (apart_faults u v) out out' t t'
-parted-fault u v {out} {out'} {t} {t'} e f a = go (is_open u) (is_open v) e f
+pub parted-fault : (u v : Ty) {r r' : Report} → is_open u ≡ false → is_open v ≡ false → Adds (fault_2012 u v ∷ []) r r' → Adds (apart_faults u v) r r'
+parted-fault u v {r} {r'} e f a = go (is_open u) (is_open v) e f
   where
-    go : (x y : Bool) → x ≡ false → y ≡ false → Adds (elim x [ true ↦ [] | false ↦ elim y [ true ↦ [] | false ↦ fault_2012 u v ∷ [] ] ]) out out' t t'
+    go : (x y : Bool) → x ≡ false → y ≡ false → Adds (elim x [ true ↦ [] | false ↦ elim y [ true ↦ [] | false ↦ fault_2012 u v ∷ [] ] ]) r r'
     go true y p q = absurd (let z : ◌≡◌ {A = ℕ} 0 1 = cc in omega arith)
     go false true p q = absurd (let z : ◌≡◌ {A = ℕ} 0 1 = cc in omega arith)
     go false false p q = a

@@ -24,9 +24,8 @@ use Rattle.walk_run.specs.Run.{Told, told, too_much, or_much, end_op}
 use Rattle.exprs.specs.State.{Fine}
 use Rattle.exprs.specs.declared.state.Accumulator.{Accumulator}
 use Rattle.report.specs.Report.{faults_text, Adds}
-use Rattle.report.specs.declared.Tally.{Tally}
+use Rattle.report.specs.declared.Report.{Report}
 use Rattle.report.proofs.ReportLaws.{adds_none}
-use Rattle.exprs.specs.declared.state.Typed.{Typed}
 use Rattle.std.specs.declared.option.Option.TheVariants.{Some, None}
 use Rattle.exprs.specs.End.{Ends, Settles, TwoAt, SomeTwo}
 use Rattle.operators.specs.Helpers.{SomeKinds}
@@ -99,17 +98,17 @@ done-inside {s} {s'} {a} {b} {m} {e} {r} p u q =
 
 -- ## Ends
 
-adds-long : {fs : List Fault} {out out' : Bytes} {n m : Tally} → Adds fs out out' n m → length out' ≡ length out
-adds-long {fs} {out} {n = n} a = ap length a.text ∙ length-sets out n.fill (faults_text fs)
+adds-long : {fs : List Fault} {y y' : Report} → Adds fs y y' → length y'.writer.now.out.now ≡ length y.writer.now.out.now
+adds-long {fs} {y} a = ap length a.text ∙ length-sets y.writer.now.out.now y.writer.now.fill (faults_text fs)
 
 -- too large
-pub ends-large : {x : Told} {fs : List Fault} {s s' out out' : Bytes} {n m : Tally} → x ≡ too_much → length s' ≡ length s → Adds fs out out' n m → Ends x s s' out out' n None
+pub ends-large : {x : Told} {fs : List Fault} {s s' : Bytes} {y y' : Report} → x ≡ too_much → length s' ≡ length s → Adds fs y y' → Ends x s s' y y' None
 ends-large e l a = rw e (record { answer = tt; long = l; as_long = adds-long a })
 
 -- what a helper settled over a text that is as long
-pub ends-settled : {t : Ty} {fs : List Fault} {x : Told} {s s₁ s' out out' : Bytes} {n m : Tally} {r : Typed} → Settles t s₁ s' m r → x ≡ told t fs → length s₁ ≡ length s → Adds fs out out' n m → Ends x s s' out out' n (Some r)
-ends-settled {t} {fs} {x} {s} {s₁} {s'} {out} {out'} {n} {m} {r} h e l a =
-    let w = h fs out out' n a in
+pub ends-settled : {t : Ty} {fs : List Fault} {x : Told} {s s₁ s' : Bytes} {y y' : Report} {r : ℕ} → Settles t s₁ s' r → x ≡ told t fs → length s₁ ≡ length s → Adds fs y y' → Ends x s s' y y' (Some r)
+ends-settled {t} {fs} {x} {s} {s₁} {s'} {y} {y'} {r} h e l a =
+    let w = h fs y y' a in
     rw e (record { answer = w.answer; long = w.long ∙ l; as_long = w.as_long })
 
 -- ## A comparison
@@ -122,20 +121,20 @@ module _ {s s₁ : Bytes} {st : Accumulator} {u : Unified} (w : Unifies s s₁ (
   told-run : Answered (verdict (unify a b)) s₁ (st.len + st.second) u
   told-run = w.answer a b (left-operand h) (right_operand h)
 
-  pub compared-done : {s' out : Bytes} {m : Tally} {r : Typed} {e : ℕ} → u ≡ Ok e → Settles (base t_bool) s₁ s' m r → Ends (end_op comparison a b) s s' out out m (Some r)
+  pub compared-done : {s' : Bytes} {y : Report} {r e : ℕ} → u ≡ Ok e → Settles (base t_bool) s₁ s' r → Ends (end_op comparison a b) s s' y y (Some r)
   compared-done q g =
       let (t, p, f) = done-run s₁ (st.len + st.second) (verdict (unify a b)) told-run q in
       ends-settled g (compared a b (done t) p) w.below.long adds_none
 
-  pub compared-apart : {s' out : Bytes} {m : Tally} {r : Typed} {i j : Span} → u ≡ Err (Mismatch i j) → Settles (base t_bool) s₁ s' m r → Ends (end_op comparison a b) s s' out out m (Some r)
+  pub compared-apart : {s' : Bytes} {y : Report} {r : ℕ} {i j : Span} → u ≡ Err (Mismatch i j) → Settles (base t_bool) s₁ s' r → Ends (end_op comparison a b) s s' y y (Some r)
   compared-apart q g =
       let (x, y, p) = apart-run s₁ (st.len + st.second) (verdict (unify a b)) told-run q in
       ends-settled g (compared a b (mismatch x y) p) w.below.long adds_none
 
-  pub compared-large : {out : Bytes} {m : Tally} → u ≡ Err TooLarge → Ends (end_op comparison a b) s s₁ out out m None
-  compared-large {out} {m} q =
+  pub compared-large : {y : Report} → u ≡ Err TooLarge → Ends (end_op comparison a b) s s₁ y y None
+  compared-large {y} q =
       let p = large-run s₁ (st.len + st.second) (verdict (unify a b)) told-run q in
-      ends-large (compared a b large p) w.below.long (adds_none {t = m})
+      ends-large (compared a b large p) w.below.long (adds_none {r = y})
 
 -- ## The element of a list
 

@@ -15,7 +15,6 @@ use Rattle.semantics.specs.Walk.{Fault, Need, a_number, a_string, a_bool, meets,
 use Rattle.text.proofs.Laws.{slice-take, slice-sets}
 use Rattle.ty.specs.Parts.{TypeAt}
 use Rattle.ty.specs.Read.{kind_of}
-use Rattle.ty.specs.Kind.{SomeKind}
 use Rattle.ty.proofs.KindLaws.{kind_at}
 use Rattle.builtins.specs.Rows.{Returned}
 use Rattle.builtins.proofs.Laws.{front-line}
@@ -27,9 +26,8 @@ use Rattle.std.specs.Prelude.{Ok, Err}
 use Rattle.walk_run.specs.Run.{kept, told, or_much, end_op}
 use Rattle.exprs.specs.declared.state.Accumulator.{Accumulator}
 use Rattle.report.specs.Report.{faults_text, Adds, HasRoom}
-use Rattle.report.specs.declared.Tally.{Tally}
+use Rattle.report.specs.declared.Report.{Report}
 use Rattle.report.proofs.ReportLaws.{adds_none, adds_then, fault-short}
-use Rattle.exprs.specs.declared.state.Typed.{Typed}
 use Rattle.std.specs.declared.option.Option.{Option}
 use Rattle.std.specs.declared.option.Option.TheVariants.{Some, None}
 use Rattle.exprs.specs.End.{Puts, Ends, Settles, Countable, KeptAt, TwoAt}
@@ -79,15 +77,14 @@ require-short k u = go (meets k u)
     go false = (fault-short (fault_of k u), omega arith)
 
 -- room for the second
-pub asked-room : (k : Need) {a b : ℕ} {out out' : Bytes} {t t' : Tally} → SomeKinds a b → Countable t → ((u : Ty) → kind_of u ≡ a → Adds (require k u) out out' t t')
-    → HasRoom t' × SomeKind b
+pub asked-room : (k : Need) {a b : ℕ} {r r' : Report} → SomeKinds a b → Countable r → ((u : Ty) → kind_of u ≡ a → Adds (require k u) r r') → HasRoom r'
 asked-room k s n h =
     let x = h s.first.ty s.first.is in
     let y = require-short k s.first.ty in
-    (record { fill = omega (arith, x.end, n.fill); faults = omega (arith, x.count, n.faults) }, s.second)
+    record { fill = omega (arith, x.end, n.fill); faults = omega (arith, x.count, n.faults) }
 
-pub asked-two : (k : Need) {a b : ℕ} {out out' out'' : Bytes} {t t' t'' : Tally} → ((u : Ty) → kind_of u ≡ a → Adds (require k u) out out' t t')
-    → ((u : Ty) → kind_of u ≡ b → Adds (require k u) out' out'' t' t'') → TwoAsked k a b out out'' t t''
+pub asked-two : (k : Need) {a b : ℕ} {r r' r'' : Report} → ((u : Ty) → kind_of u ≡ a → Adds (require k u) r r') → ((u : Ty) → kind_of u ≡ b → Adds (require k u) r' r'')
+    → TwoAsked k a b r r''
 asked-two k h g u v e f = adds_then (h u e) (g v f)
 
 -- ## The type that arithmetic goes on with
@@ -119,16 +116,16 @@ put-numeric t e h p =
 pub one-kind : {s : Bytes} {st : Accumulator} {t : Ty} → KeptAt (kept t) s st → kind_of t ≡ get_or s 0 0
 one-kind {s} {st} {t} h = sym (kind_at s 0 st.len t (kept_at h))
 
-module _ {s s' out out' : Bytes} {n m : Tally} {st : Accumulator} (k : ℕ) {t : Ty} (h : KeptAt (kept t) s st) where
-  pub unary-minus : {x len : ℕ} → k ≡ 0 → NumericKind (get_or s 0 0) x → Puts (x ∷ 44 ∷ []) s s' len → ((u : Ty) → kind_of u ≡ get_or s 0 0 → Adds (require a_number u) out out' n m)
-      → Ends (told (unary_type k t) (unary_faults k t)) s s' out out' n (Some (record { len = len; tally = m }))
+module _ {s s' : Bytes} {y y' : Report} {st : Accumulator} (k : ℕ) {t : Ty} (h : KeptAt (kept t) s st) where
+  pub unary-minus : {x len : ℕ} → k ≡ 0 → NumericKind (get_or s 0 0) x → Puts (x ∷ 44 ∷ []) s s' len → ((u : Ty) → kind_of u ≡ get_or s 0 0 → Adds (require a_number u) y y')
+      → Ends (told (unary_type k t) (unary_faults k t)) s s' y y' (Some len)
   unfolding unary_type unary_faults
-  unary-minus e q p a = rw e (settle (put-numeric t (q.is t (one-kind h)) (omega (arith, h.wide)) p) (require a_number t) out out' n (a t (one-kind h)))
+  unary-minus e q p a = rw e (settle (put-numeric t (q.is t (one-kind h)) (omega (arith, h.wide)) p) (require a_number t) y y' (a t (one-kind h)))
 
-  pub unary-not : {r : Typed} → (k ≡ 0 → ⊥) → Settles (base t_bool) s s' m r → ((u : Ty) → kind_of u ≡ get_or s 0 0 → Adds (require a_bool u) out out' n m)
-      → Ends (told (unary_type k t) (unary_faults k t)) s s' out out' n (Some r)
+  pub unary-not : {r : ℕ} → (k ≡ 0 → ⊥) → Settles (base t_bool) s s' r → ((u : Ty) → kind_of u ≡ get_or s 0 0 → Adds (require a_bool u) y y')
+      → Ends (told (unary_type k t) (unary_faults k t)) s s' y y' (Some r)
   unfolding unary_type unary_faults
-  unary-not {r} e g a = rw (ne_eqb k 0 e, unary_type, unary_faults) (g (require a_bool t) out out' n (a t (one-kind h)))
+  unary-not {r} e g a = rw (ne_eqb k 0 e, unary_type, unary_faults) (g (require a_bool t) y y' (a t (one-kind h)))
 
 -- ## Arithmetic
 
@@ -186,8 +183,8 @@ module _ {s s₁ : Bytes} {x y r : ℕ} (h : 8192 ≤ length s) (p : Puts (x ∷
       long : length s₂ ≡ length s
       long = w.below.long ∙ pair-long
 
-      pub computed-done : {m : Tally} {e : ℕ} {s₃ : Bytes} → o ≡ Ok e → s₃ ≡ sets s₂ 0 (slice 4 (4 + (e - 4)) s₂) → Computed a b s s₃ m (Some (record { len = e - 4; tally = m }))
-      computed-done {m} {e} {s₃} q c u v d f fs out out' n ad =
+      pub computed-done : {e : ℕ} {s₃ : Bytes} → o ≡ Ok e → s₃ ≡ sets s₂ 0 (slice 4 (4 + (e - 4)) s₂) → Computed a b s s₃ (Some (e - 4))
+      computed-done {e} {s₃} q c u v d f fs n n' ad =
           let (t, z, y) = done-run s₂ 4 (verdict (unify (numeric u) (numeric v))) (run_of u v d f) q in
           ends-settled (settle (copied t y)) (ap (λ (R : Run). or_much R (λ t. told t fs) (told (base t_unknown) fs)) z) long ad
         where
@@ -199,40 +196,40 @@ module _ {s s₁ : Bytes} {x y r : ℕ} (h : 8192 ≤ length s) (p : Puts (x ∷
               let x : s₃ ≡ sets s₂ 0 (line t) = c ∙ ap (λ (k : ℕ). sets s₂ 0 (slice 4 k s₂)) n ∙ ap (sets s₂ 0) y.is in
               rw (x, ← l) (front-line s₂ t (omega (arith, l, y.inside)))
 
-      pub computed-apart : {m : Tally} {i' j' : Span} {len : ℕ} {s₃ : Bytes} → o ≡ Err (Mismatch i' j') → Puts (80 ∷ 44 ∷ []) s₂ s₃ len → Computed a b s s₃ m (Some (record { len = len; tally = m }))
+      pub computed-apart : {i' j' : Span} {len : ℕ} {s₃ : Bytes} → o ≡ Err (Mismatch i' j') → Puts (80 ∷ 44 ∷ []) s₂ s₃ len → Computed a b s s₃ (Some len)
       unfolding letter
-      computed-apart q c u v d f fs out out' n ad =
+      computed-apart q c u v d f fs n n' ad =
           let (x, y, z) = apart-run s₂ 4 (verdict (unify (numeric u) (numeric v))) (run_of u v d f) q in
           ends-settled (settle (put-base t_unknown refl (omega (arith, long)) c)) (ap (λ (R : Run). or_much R (λ t. told t fs) (told (base t_unknown) fs)) z) long ad
 
-      pub computed-large : {m : Tally} → o ≡ Err TooLarge → Computed a b s s₂ m None
-      computed-large q u v d f fs out out' n ad =
+      pub computed-large : o ≡ Err TooLarge → Computed a b s s₂ None
+      computed-large q u v d f fs n n' ad =
           let z = large-run s₂ 4 (verdict (unify (numeric u) (numeric v))) (run_of u v d f) q in
           ends-large (ap (λ (R : Run). or_much R (λ t. told t fs) (told (base t_unknown) fs)) z) long ad
 
 -- ## A binary operator
 
-module _ {s s' out : Bytes} {n : Tally} {st : Accumulator} {o : Op} {a b : Ty} (h : TwoAt a b s st) where
-  pub binary-arithmetic : {out' : Bytes} {m : Tally} {r : Option Typed} → o ≡ arithmetic → TwoAsked a_number (get_or s 0 0) (get_or s st.len 0) out out' n m → Computed (get_or s 0 0) (get_or s st.len 0) s s' m r
-      → Ends (end_op o a b) s s' out out' n r
+module _ {s s' : Bytes} {y : Report} {st : Accumulator} {o : Op} {a b : Ty} (h : TwoAt a b s st) where
+  pub binary-arithmetic : {y' : Report} {r : Option ℕ} → o ≡ arithmetic → TwoAsked a_number (get_or s 0 0) (get_or s st.len 0) y y' → Computed (get_or s 0 0) (get_or s st.len 0) s s' r
+      → Ends (end_op o a b) s s' y y' r
   unfolding end_op op_faults
-  binary-arithmetic {out'} e k c = rw e (c a b (left-kind h) (right-kind h) (require a_number a ++ require a_number b) out out' n (k a b (left-kind h) (right-kind h)))
+  binary-arithmetic {y'} e k c = rw e (c a b (left-kind h) (right-kind h) (require a_number a ++ require a_number b) y y' (k a b (left-kind h) (right-kind h)))
 
-  pub binary-equality : {r : Typed} → o ≡ equality → Settles (base t_bool) s s' n r → Ends (end_op o a b) s s' out out n (Some r)
+  pub binary-equality : {r : ℕ} → o ≡ equality → Settles (base t_bool) s s' r → Ends (end_op o a b) s s' y y (Some r)
   unfolding end_op
-  binary-equality e g = rw e (g [] out out n adds_none)
+  binary-equality e g = rw e (g [] y y adds_none)
 
-  pub binary-boolean : {out' : Bytes} {m : Tally} {r : Typed} → o ≡ boolean → TwoAsked a_bool (get_or s 0 0) (get_or s st.len 0) out out' n m → Settles (base t_bool) s s' m r → Ends (end_op o a b) s s' out out' n (Some r)
+  pub binary-boolean : {y' : Report} {r : ℕ} → o ≡ boolean → TwoAsked a_bool (get_or s 0 0) (get_or s st.len 0) y y' → Settles (base t_bool) s s' r → Ends (end_op o a b) s s' y y' (Some r)
   unfolding end_op op_faults
-  binary-boolean {out'} e k g = rw e (g (require a_bool a ++ require a_bool b) out out' n (k a b (left-kind h) (right-kind h)))
+  binary-boolean {y'} e k g = rw e (g (require a_bool a ++ require a_bool b) y y' (k a b (left-kind h) (right-kind h)))
 
-  pub binary-string : {out' : Bytes} {m : Tally} {r : Typed} → o ≡ string → TwoAsked a_string (get_or s 0 0) (get_or s st.len 0) out out' n m → Settles (base t_bool) s s' m r → Ends (end_op o a b) s s' out out' n (Some r)
+  pub binary-string : {y' : Report} {r : ℕ} → o ≡ string → TwoAsked a_string (get_or s 0 0) (get_or s st.len 0) y y' → Settles (base t_bool) s s' r → Ends (end_op o a b) s s' y y' (Some r)
   unfolding end_op op_faults
-  binary-string {out'} e k g = rw e (g (require a_string a ++ require a_string b) out out' n (k a b (left-kind h) (right-kind h)))
+  binary-string {y'} e k g = rw e (g (require a_string a ++ require a_string b) y y' (k a b (left-kind h) (right-kind h)))
 
-pub binary-concat : {s s' out : Bytes} {n : Tally} {len : ℕ} {o : Op} (a b : Ty) → o ≡ concat → 2 ≤ length s → Puts (65 ∷ 44 ∷ []) s s' len → Ends (end_op o a b) s s' out out n (Some (record { len = len; tally = n }))
+pub binary-concat : {s s' : Bytes} {y : Report} {len : ℕ} {o : Op} (a b : Ty) → o ≡ concat → 2 ≤ length s → Puts (65 ∷ 44 ∷ []) s s' len → Ends (end_op o a b) s s' y y (Some len)
 unfolding end_op
-binary-concat {out = out} {n = n} a b e h p = rw e (settle (put-any h p) [] out out n adds_none)
+binary-concat {y = y} a b e h p = rw e (settle (put-any h p) [] y y adds_none)
 
-pub binary-comparison : {s s' out : Bytes} {n : Tally} {r : Option Typed} {o : Op} (a b : Ty) → o ≡ comparison → Ends (end_op comparison a b) s s' out out n r → Ends (end_op o a b) s s' out out n r
+pub binary-comparison : {s s' : Bytes} {y : Report} {r : Option ℕ} {o : Op} (a b : Ty) → o ≡ comparison → Ends (end_op comparison a b) s s' y y r → Ends (end_op o a b) s s' y y r
 binary-comparison a b e h = rw e h

@@ -4,12 +4,11 @@ use mathlib.Core.Path.{◌≡◌, refl, sym, ap, ap₂, ◌∙◌}
 use mathlib.Core.List.{[], ◌∷◌}
 use mathlib.Core.Bool.{Bool, true, false, ◌||◌}
 use lib.Dec.{eqb}
-use Rattle.semantics.specs.Bytes.{Bytes}
 use Rattle.semantics.specs.Ty.{t_unknown, Ty, base, t_list, t_map, t_node, t_relationship, t_union, letter, among, matches}
 use Rattle.semantics.specs.Walk.{Need, a_number, a_string, a_bool, meets, fault_of, require, numeric, is_open}
 use Rattle.ty.specs.Read.{kind_of}
 use Rattle.ty.specs.Kind.{SomeKind}
-use Rattle.report.specs.declared.Tally.{Tally}
+use Rattle.report.specs.declared.Report.{Report}
 use Rattle.report.specs.Report.{Adds}
 use Rattle.report.proofs.ReportLaws.{adds_none}
 use Rattle.operators.specs.Helpers.{NumericKind}
@@ -97,10 +96,10 @@ module _ (k : ℕ) (b : Bool) (h : (u : Ty) → kind_of u ≡ k → b ≡ meets 
       }
 
 -- what is met adds nothing, what is not met adds its fault
-pub adds-met : (k : Need) (u : Ty) {out : Bytes} {t : Tally} → meets k u ≡ true → Adds (require k u) out out t t
+pub adds-met : (k : Need) (u : Ty) {r : Report} → meets k u ≡ true → Adds (require k u) r r
 unfolding require
 adds-met k u e = rw (require, e) adds_none
 
-pub adds-unmet : (k : Need) (u : Ty) {out out' : Bytes} {t t' : Tally} → meets k u ≡ false → Adds (fault_of k u ∷ []) out out' t t' → Adds (require k u) out out' t t'
+pub adds-unmet : (k : Need) (u : Ty) {r r' : Report} → meets k u ≡ false → Adds (fault_of k u ∷ []) r r' → Adds (require k u) r r'
 unfolding require
 adds-unmet k u e a = rw (require, e) a

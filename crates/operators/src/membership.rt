@@ -1,30 +1,35 @@
-// IN (`check_in_list`): the operand is [0..len), what should be a list the `second` bytes behind it.
+// IN (`check_in_list`): the operand is [0..len), what should be a list the `second` bytes behind it. (`SomeTwo`: as
+// in operators.rt.)
 ghost use Rattle.std.specs.Prelude.{◌≡◌, get_or};
 ghost use Rattle.semantics.specs.Ty.{Ty};
 ghost use Rattle.walk_run.specs.Run.{end_in};
 ghost use Rattle.exprs.specs.End.{Ends, Countable, TwoAt, SomeTwo};
-ghost use Rattle.operators.specs.Helpers.{SomeKinds, Parted, LetsIn};
+ghost use Rattle.operators.specs.Helpers.{Parted, LetsIn};
 
-use exprs::{Accumulator, Typed, is_bool};
-use report::{Tally, TypeFault};
+use exprs::{Accumulator, is_bool};
+use report::{Report, TypeFault};
 use ty::{ANY, LIST, NULL, UNKNOWN};
 use unify::{Span, UnifyError};
 
 // A mismatch is a fault where neither side is open.
-fn mismatch_in(a: u8, b: u8, out: &mut [u8], tally: Tally) -> Tally
-    requires { SomeKinds a b × Countable tally }
-    ensures { Parted a b out.old out.new tally result }
+fn mismatch_in(a: u8, b: u8, report: &mut Report<'_, '_>)
+    requires { Countable report.old }
+    ensures keeps { report.new.writer.ghost_name ≡ report.old.writer.ghost_name }
+    ensures keeps_out { report.new.writer.now.out.ghost_name ≡ report.old.writer.now.out.ghost_name }
+    ensures adds { Parted a b report.old report.new }
 {
     if report::is_open(a) || report::is_open(b) {
-        return tally;
+        return;
     }
-    report::fault_in(out, tally, a, b)
+    report.fault_in(a, b);
 }
 
 // With a list on the right: the operand against its element.
-fn in_list(st: Accumulator, work: &mut [u8], out: &mut [u8], tally: Tally) -> Option<Typed>
-    requires { SomeTwo work.old st × Countable tally × (get_or work.old st.len 0 ≡ 74) }
-    ensures { (a b : Ty) → TwoAt a b work.old st → Ends (end_in a b) work.old work.new out.old out.new tally result }
+fn in_list(st: Accumulator, work: &mut [u8], report: &mut Report<'_, '_>) -> Option<usize>
+    requires { SomeTwo work.old st × Countable report.old × (get_or work.old st.len 0 ≡ 74) }
+    ensures keeps { report.new.writer.ghost_name ≡ report.old.writer.ghost_name }
+    ensures keeps_out { report.new.writer.now.out.ghost_name ≡ report.old.writer.now.out.ghost_name }
+    ensures ends { (a b : Ty) → TwoAt a b work.old st → Ends (end_in a b) work.old work.new report.old report.new result }
 {
     let k = st.len;
     let e = k + st.second;
@@ -37,10 +42,10 @@ fn in_list(st: Accumulator, work: &mut [u8], out: &mut [u8], tally: Tally) -> Op
         Span { from: k + 2, to: e },
         e,
     ) {
-        Ok(_) => Some(is_bool(work, tally)),
+        Ok(_) => Some(is_bool(work)),
         Err(UnifyError::Mismatch { .. }) => {
-            let c = mismatch_in(a, b, out, tally);
-            Some(is_bool(work, c))
+            mismatch_in(a, b, report);
+            Some(is_bool(work))
         }
         Err(UnifyError::TooLarge) => None,
     }
@@ -53,23 +58,19 @@ fn lets_in(kind: u8) -> bool
     matches!(kind, ANY | NULL | UNKNOWN)
 }
 
-pub fn check_in_list(
-    st: Accumulator,
-    work: &mut [u8],
-    out: &mut [u8],
-    tally: Tally,
-) -> Option<Typed>
-    requires { SomeTwo work.old st × Countable tally }
-    ensures { (a b : Ty) → TwoAt a b work.old st → Ends (end_in a b) work.old work.new out.old out.new tally result }
+pub fn check_in_list(st: Accumulator, work: &mut [u8], report: &mut Report<'_, '_>) -> Option<usize>
+    requires { SomeTwo work.old st × Countable report.old }
+    ensures keeps { report.new.writer.ghost_name ≡ report.old.writer.ghost_name }
+    ensures keeps_out { report.new.writer.now.out.ghost_name ≡ report.old.writer.now.out.ghost_name }
+    ensures ends { (a b : Ty) → TwoAt a b work.old st → Ends (end_in a b) work.old work.new report.old report.new result }
 {
     let k = st.len;
     let b = work[k];
     if b == LIST {
-        return in_list(st, work, out, tally);
+        return in_list(st, work, report);
     }
-    if lets_in(b) {
-        return Some(is_bool(work, tally));
+    if !lets_in(b) {
+        report.fault(TypeFault::E2013, b);
     }
-    let c = report::fault(out, tally, TypeFault::E2013, b);
-    Some(is_bool(work, c))
+    Some(is_bool(work))
 }

@@ -1,4 +1,5 @@
-// What is asked of a type (`require_numeric`, `require_string`, `require_bool`), and the fault of one that is something else.
+// What is asked of a type (`require_numeric`, `require_string`, `require_bool`), and the fault of one that is something else. A type's kind
+// is the first letter of its line: it is read where it stands, and arithmetic writes it on.
 ghost use Rattle.std.specs.Prelude.{◌≡◌};
 ghost use Rattle.semantics.specs.Ty.{Ty};
 ghost use Rattle.semantics.specs.Walk.{require, meets, fault_of};
@@ -8,7 +9,7 @@ ghost use Rattle.report.specs.Report.{Adds, HasRoom, code_fault};
 ghost use Rattle.exprs.specs.End.{Countable};
 ghost use Rattle.operators.specs.Helpers.{SomeKinds, TwoAsked, need_of};
 
-use report::{Tally, TypeFault};
+use report::{Report, TypeFault};
 use ty::{BOOL, FLOAT, INT, NUM, STRING};
 
 #[derive(Clone, Copy, PartialEq, Eq)]
@@ -44,21 +45,25 @@ fn fault_code(need: Need) -> TypeFault
     }
 }
 
-pub fn require(need: Need, kind: u8, out: &mut [u8], tally: Tally) -> Tally
-    requires { HasRoom tally × SomeKind kind }
-    ensures { (u : Ty) → kind_of u ≡ kind → Adds (require (need_of need) u) out.old out.new tally result }
+pub fn require(need: Need, kind: u8, report: &mut Report<'_, '_>)
+    requires { HasRoom report.old }
+    ensures keeps { report.new.writer.ghost_name ≡ report.old.writer.ghost_name }
+    ensures keeps_out { report.new.writer.now.out.ghost_name ≡ report.old.writer.now.out.ghost_name }
+    ensures adds { (u : Ty) → kind_of u ≡ kind → Adds (require (need_of need) u) report.old report.new }
 {
     if meets(need, kind) {
-        return tally;
+        return;
     }
-    report::fault(out, tally, fault_code(need), kind)
+    report.fault(fault_code(need), kind);
 }
 
-// The same asked of two types.
-pub fn require_both(need: Need, a: u8, b: u8, out: &mut [u8], tally: Tally) -> Tally
-    requires { SomeKinds a b × Countable tally }
-    ensures { TwoAsked (need_of need) a b out.old out.new tally result }
+// The same asked of two types: of a kind that types have it is known how little room the first takes.
+pub fn require_both(need: Need, a: u8, b: u8, report: &mut Report<'_, '_>)
+    requires { SomeKinds a b × Countable report.old }
+    ensures keeps { report.new.writer.ghost_name ≡ report.old.writer.ghost_name }
+    ensures keeps_out { report.new.writer.now.out.ghost_name ≡ report.old.writer.now.out.ghost_name }
+    ensures adds { TwoAsked (need_of need) a b report.old report.new }
 {
-    let first = require(need, a, out, tally);
-    require(need, b, out, first)
+    require(need, a, report);
+    require(need, b, report);
 }

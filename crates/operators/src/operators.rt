@@ -1,4 +1,5 @@
-// Unary and binary operators (`infer_unaryop`, `infer_binop`). One operand is kept, or two.
+// Unary and binary operators (`infer_unaryop`, `infer_binop`). One operand is kept, or two. That they stand at the front (`SomeOne`,
+// `SomeTwo`) is asked at each end: a struct of both that has it as its invariant would be made for that one call.
 ghost use Rattle.std.specs.Prelude.{◌≡◌, ◌≤◌, length};
 ghost use Rattle.semantics.specs.Bytes.{Bytes};
 ghost use Rattle.semantics.specs.Ty.{Ty};
@@ -7,11 +8,12 @@ ghost use Rattle.semantics.specs.Walk.{comparison as comparison_op};
 ghost use Rattle.ty.specs.Kind.{SomeKind};
 ghost use Rattle.walk_run.specs.Run.{kept, told, end_op};
 ghost use Rattle.exprs.specs.End.{Ends, Countable, KeptAt, TwoAt, SomeTwo, SomeOne};
-ghost use Rattle.operators.specs.Helpers.{NumericKind, SomeKinds, Computed, op_of};
+ghost use Rattle.report.specs.declared.Report.{Report as Told};
+ghost use Rattle.operators.specs.Helpers.{NumericKind, SomeKinds, Computed, IsUnary, op_of};
 
 use crate::need::{Need, meets, require, require_both};
-use exprs::{Accumulator, Typed, is_bool, put_letter, put_pair};
-use report::Tally;
+use exprs::{Accumulator, is_bool, put_letter, put_pair};
+use report::Report;
 use ty::{ANY, UNKNOWN};
 use unify::{Span, UnifyError};
 
@@ -27,62 +29,76 @@ fn numeric(kind: u8) -> u8
     }
 }
 
-// The unary operator that asks for a number (`UnaryOp::Neg`); the other is `Not`.
-const NEG: u64 = 0;
+#[derive(Clone, Copy, PartialEq, Eq)]
+enum UnaryOp {
+    Neg,
+    Not,
+}
+
+// The operator of a line's number.
+impl From<u64> for UnaryOp {
+    ghost from_gives = { IsUnary };
+
+    fn from(num: u64) -> UnaryOp {
+        match num {
+            0 => UnaryOp::Neg,
+            _ => UnaryOp::Not,
+        }
+    }
+}
 
 // A unary operator.
 pub fn infer_unaryop(
     num: u64,
-    work: &mut [u8],
-    out: &mut [u8],
-    tally: Tally,
     st: Accumulator,
-) -> Typed
-    requires { SomeOne work.old st × Countable tally }
-    ensures { (t : Ty) → KeptAt (kept t) work.old st → Ends (told (unary_type num t) (unary_faults num t)) work.old work.new out.old out.new tally (Some result) }
+    work: &mut [u8],
+    report: &mut Report<'_, '_>,
+) -> usize
+    requires { SomeOne work.old st × Countable report.old }
+    ensures keeps { report.new.writer.ghost_name ≡ report.old.writer.ghost_name }
+    ensures keeps_out { report.new.writer.now.out.ghost_name ≡ report.old.writer.now.out.ghost_name }
+    ensures ends { (t : Ty) → KeptAt (kept t) work.old st → Ends (told (unary_type num t) (unary_faults num t)) work.old work.new report.old report.new (Some result) }
 {
     let a = work[0];
-    if num == NEG {
-        let c = require(Need::Number, a, out, tally);
-        return Typed {
-            len: put_letter(work, numeric(a)),
-            tally: c,
-        };
+    match UnaryOp::from(num) {
+        UnaryOp::Neg => {
+            require(Need::Number, a, report);
+            put_letter(work, numeric(a))
+        }
+        UnaryOp::Not => {
+            require(Need::Bool, a, report);
+            is_bool(work)
+        }
     }
-    let c = require(Need::Bool, a, out, tally);
-    is_bool(work, c)
 }
 
 // Arithmetic over two operands' letters.
-fn arithmetic(work: &mut [u8], a: u8, b: u8, tally: Tally) -> Option<Typed>
+fn arithmetic(work: &mut [u8], a: u8, b: u8) -> Option<usize>
     requires { (8192 ≤ length work.old) × SomeKinds a b }
-    ensures { Computed a b work.old work.new tally result }
+    ensures { Computed a b work.old work.new result }
 {
     put_pair(work, numeric(a), numeric(b));
     match unify::unify(work, Span { from: 0, to: 2 }, Span { from: 2, to: 4 }, 4) {
         Ok(end) => {
             let n = end - 4;
             text::copy_in(work, 4, 0, n);
-            Some(Typed { len: n, tally })
+            Some(n)
         }
-        Err(UnifyError::Mismatch { .. }) => Some(Typed {
-            len: put_letter(work, UNKNOWN),
-            tally,
-        }),
+        Err(UnifyError::Mismatch { .. }) => Some(put_letter(work, UNKNOWN)),
         Err(UnifyError::TooLarge) => None,
     }
 }
 
 // A comparison: only whether the operands' unification is too large.
-fn comparison(st: Accumulator, work: &mut [u8], tally: Tally) -> Option<Typed>
+fn comparison(st: Accumulator, work: &mut [u8]) -> Option<usize>
     requires { SomeTwo work.old st }
-    ensures { (a b : Ty) (out : Bytes) → TwoAt a b work.old st → Ends (end_op comparison_op a b) work.old work.new out out tally result }
+    ensures { (a b : Ty) (r : Told) → TwoAt a b work.old st → Ends (end_op comparison_op a b) work.old work.new r r result }
 {
     let k = st.len;
     let e = k + st.second;
     match unify::unify(work, Span { from: 0, to: k }, Span { from: k, to: e }, e) {
-        Ok(_) => Some(is_bool(work, tally)),
-        Err(UnifyError::Mismatch { .. }) => Some(is_bool(work, tally)),
+        Ok(_) => Some(is_bool(work)),
+        Err(UnifyError::Mismatch { .. }) => Some(is_bool(work)),
         Err(UnifyError::TooLarge) => None,
     }
 }
@@ -97,8 +113,9 @@ enum OpKind {
     Concatenation,
 }
 
-// The first operators of each kind but the first, in the order of the Rust's `BinOp`. A line says an operator by its number, and only its
-// kind counts: an enum of all twenty would be no plainer.
+// The first operators of each kind but the first, in the order of the Rust's `BinOp` and of docs/RULES.md 3.4. A line says an operator by
+// its number, which is read here alone: `OpKind::from` takes its range to its kind at once, where an enum of all twenty would be made of the
+// number by twenty arms and taken to its kind by twenty more.
 const EQ: u64 = 6;
 
 const LT: u64 = 8;
@@ -110,16 +127,18 @@ const STARTS_WITH: u64 = 15;
 const CONCAT: u64 = 19;
 
 // The operator's kind.
-fn op_kind(num: u64) -> OpKind
-    ensures { op_of result ≡ op num }
-{
-    match num {
-        ..EQ => OpKind::Arithmetic,
-        EQ..LT => OpKind::Equality,
-        LT..AND => OpKind::Comparison,
-        AND..STARTS_WITH => OpKind::Boolean,
-        STARTS_WITH..CONCAT => OpKind::Strings,
-        _ => OpKind::Concatenation,
+impl From<u64> for OpKind {
+    ghost from_gives = { λ num kind. op_of kind ≡ op num };
+
+    fn from(num: u64) -> OpKind {
+        match num {
+            ..EQ => OpKind::Arithmetic,
+            EQ..LT => OpKind::Equality,
+            LT..AND => OpKind::Comparison,
+            AND..STARTS_WITH => OpKind::Boolean,
+            STARTS_WITH..CONCAT => OpKind::Strings,
+            _ => OpKind::Concatenation,
+        }
     }
 }
 
@@ -128,33 +147,31 @@ pub fn infer_binop(
     num: u64,
     st: Accumulator,
     work: &mut [u8],
-    out: &mut [u8],
-    tally: Tally,
-) -> Option<Typed>
-    requires { SomeTwo work.old st × Countable tally }
-    ensures { (a b : Ty) → TwoAt a b work.old st → Ends (end_op (op num) a b) work.old work.new out.old out.new tally result }
+    report: &mut Report<'_, '_>,
+) -> Option<usize>
+    requires { SomeTwo work.old st × Countable report.old }
+    ensures keeps { report.new.writer.ghost_name ≡ report.old.writer.ghost_name }
+    ensures keeps_out { report.new.writer.now.out.ghost_name ≡ report.old.writer.now.out.ghost_name }
+    ensures ends { (a b : Ty) → TwoAt a b work.old st → Ends (end_op (op num) a b) work.old work.new report.old report.new result }
 {
     let k = st.len;
     let a = work[0];
     let b = work[k];
-    match op_kind(num) {
+    match OpKind::from(num) {
         OpKind::Arithmetic => {
-            let c = require_both(Need::Number, a, b, out, tally);
-            arithmetic(work, a, b, c)
+            require_both(Need::Number, a, b, report);
+            arithmetic(work, a, b)
         }
-        OpKind::Equality => Some(is_bool(work, tally)),
-        OpKind::Comparison => comparison(st, work, tally),
+        OpKind::Equality => Some(is_bool(work)),
+        OpKind::Comparison => comparison(st, work),
         OpKind::Boolean => {
-            let c = require_both(Need::Bool, a, b, out, tally);
-            Some(is_bool(work, c))
+            require_both(Need::Bool, a, b, report);
+            Some(is_bool(work))
         }
         OpKind::Strings => {
-            let c = require_both(Need::Text, a, b, out, tally);
-            Some(is_bool(work, c))
+            require_both(Need::Text, a, b, report);
+            Some(is_bool(work))
         }
-        OpKind::Concatenation => Some(Typed {
-            len: put_letter(work, ANY),
-            tally,
-        }),
+        OpKind::Concatenation => Some(put_letter(work, ANY)),
     }
 }

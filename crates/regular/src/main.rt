@@ -4,12 +4,20 @@
 
 use semantics::Refused;
 use std::io;
+use writer::Writer;
 
-// A refusal.
+// Bytes for the line of a refusal.
+const REFUSED_ROOM: usize = 64;
+
+// Two bytes more than an old line may have: a longer one, with or without its LF, is refused.
+const LINE_ROOM: usize = 4098;
+
+// The line of a refusal. (Apart from the call: whatever is called beside a `Writer` is looked at for divisions, RULES 10.1.)
 fn say_refused(rt: &impl Print, refused: Refused) -> io::Result<()> {
-    let mut line = [0u8; 64];
-    let number = u64::from(u32::from(refused.why));
-    let n = report::refused_line(&mut line, 0, number, refused.place);
+    let mut line = [0u8; REFUSED_ROOM];
+    let mut writer = Writer::new(&mut line, 0);
+    report::refused_line(&mut writer, refused);
+    let n = writer.fill;
     rt.write_all(&line[..n])
 }
 
@@ -24,13 +32,12 @@ fn say_regular(rt: &impl Print, text: &[u8], work: &mut [u8], out: &mut [u8]) ->
     }
 }
 
-// There is room for two bytes more than an old line may have: a longer one, with or without its LF, is refused.
 fn main(rt: HostRuntime) -> io::Result<()> {
-    let mut text = [0u8; 4098];
+    let mut text = [0u8; LINE_ROOM];
     let n = input::read_full(&mut rt.stdin(), &mut text)?;
     let text = &text[..n];
     let line = text.strip_suffix(b"\n").unwrap_or(text);
-    let mut work = [0u8; 65536];
-    let mut out = [0u8; 1024];
+    let mut work = [0u8; semantics::WORK_SIZE];
+    let mut out = [0u8; semantics::TYPE_LIMIT];
     say_regular(&rt, line, &mut work, &mut out)
 }

@@ -36,6 +36,13 @@ enum Call<'a> {
     Old(&'a [u8]),
 }
 
+// What a case says of its call: the answer, and what stands at the front of the output.
+#[derive(Clone, Copy)]
+struct Want<'a> {
+    answer: Answer,
+    text: &'a [u8],
+}
+
 fn all_are(s: &[u8], b: u8) -> bool
     ensures { Decides result (s.now ≡ replicate (length s.now) b) }
 {
@@ -52,7 +59,7 @@ fn is_then(s: &[u8], t: &[u8], fill: u8) -> bool
     }
 }
 
-// What the work area is filled with after an answer of this number: the case's own, as its file has it, so no enum is plainer.
+// What the work area is filled with after an answer of this number, which is the case's own.
 fn in_work(number: u64) -> u8
     ensures { result ≡ work_byte number }
 {
@@ -81,20 +88,17 @@ fn is_left(number: u64, work: &[u8], out: &[u8], expected: &[u8]) -> bool
 }
 
 // Whether the answer and the buffers that a call left are as the case says.
-fn is_stored(answer: Answer, work: &[u8], out: &[u8], want: Answer, expected: &[u8]) -> bool
-    ensures { Decides result (left_by answer work.now out.now ≡ stored_by want (length work.now) (length out.now) expected.now) }
+fn is_stored(answer: Answer, work: &[u8], out: &[u8], want: Want) -> bool
+    ensures { Decides result (left_by answer work.now out.now ≡ stored_by want.entry.answer (length work.now) (length out.now) want.entry.text.now) }
 {
-    answer == want && is_left(want.number, work, out, expected)
+    answer == want.answer && is_left(want.answer.number, work, out, want.text)
 }
 
-// The answer of a call that tells a length.
+// The answer of a call that tells a length. (Lengths and places are cast, since there is no `From` of a `usize` for `u64`.)
 fn of_length(outcome: Result<usize, Refused>) -> Answer
     ensures { (work : Bytes) (out : Bytes) → left_by result work out ≡ settled_as outcome work out }
 {
-    match outcome {
-        Ok(n) => Answer::accepted(n as u64, 0),
-        Err(refused) => Answer::from(refused),
-    }
+    Answer::of_one(outcome.map(|n| n as u64))
 }
 
 // The answer of a call that unifies.
@@ -104,7 +108,7 @@ fn of_unified(outcome: Result<usize, NotUnified>) -> Answer
     match outcome {
         Ok(n) => Answer::accepted(n as u64, 0),
         Err(NotUnified::Mismatch { expected, actual }) => Answer {
-            number: u64::from(u32::from(Refusal::Mismatch)),
+            number: u64::from(Refusal::Mismatch),
             first: expected as u64,
             second: actual as u64,
         },
@@ -113,61 +117,63 @@ fn of_unified(outcome: Result<usize, NotUnified>) -> Answer
 }
 
 // Types a sheet.
-fn infer(sheet: &[u8], work: &mut [u8], out: &mut [u8], want: Answer, expected: &[u8]) -> bool
+fn infer(sheet: &[u8], work: &mut [u8], out: &mut [u8], want: Want) -> bool
     ensures { Decides result (sheet_call sheet.now work.old out.old
-        ≡ stored_by want (length work.old) (length out.old) expected.now) }
+        ≡ stored_by want.entry.answer (length work.old) (length out.old) want.entry.text.now) }
 {
     let answer = of_length(typing::infer_types(sheet, work, out));
-    is_stored(answer, work, out, want, expected)
+    is_stored(answer, work, out, want)
 }
 
 // Unifies.
-fn unify(a: &[u8], b: &[u8], work: &mut [u8], out: &mut [u8], want: Answer, expected: &[u8]) -> bool
+fn unify(a: &[u8], b: &[u8], work: &mut [u8], out: &mut [u8], want: Want) -> bool
     ensures { Decides result (unify_call a.now b.now work.old out.old
-        ≡ stored_by want (length work.old) (length out.old) expected.now) }
+        ≡ stored_by want.entry.answer (length work.old) (length out.old) want.entry.text.now) }
 {
     let answer = of_unified(unifying::unify_types(a, b, work, out));
-    is_stored(answer, work, out, want, expected)
+    is_stored(answer, work, out, want)
 }
 
 // Makes an old type line regular.
-fn regular(line: &[u8], work: &mut [u8], out: &mut [u8], want: Answer, expected: &[u8]) -> bool
+fn regular(line: &[u8], work: &mut [u8], out: &mut [u8], want: Want) -> bool
     ensures { Decides result (regular_call line.now work.old out.old
-        ≡ stored_by want (length work.old) (length out.old) expected.now) }
+        ≡ stored_by want.entry.answer (length work.old) (length out.old) want.entry.text.now) }
 {
     let answer = of_length(old::regular_line(line, work, out));
-    is_stored(answer, work, out, want, expected)
+    is_stored(answer, work, out, want)
 }
 
 // Whether the call does as the case says.
-fn agrees(call: Call, work: &mut [u8], out: &mut [u8], want: Answer, expected: &[u8]) -> bool
-    ensures { Decides result (Agrees call.entry work.old out.old want expected.now) }
+fn agrees(call: Call, work: &mut [u8], out: &mut [u8], want: Want) -> bool
+    ensures { Decides result (Agrees call.entry work.old out.old want.entry.answer want.entry.text.now) }
 {
     match call {
-        Call::Sheet(sheet) => infer(sheet, work, out, want, expected),
-        Call::Pair(a, b) => unify(a, b, work, out, want, expected),
-        Call::Old(line) => regular(line, work, out, want, expected),
+        Call::Sheet(sheet) => infer(sheet, work, out, want),
+        Call::Pair(a, b) => unify(a, b, work, out, want),
+        Call::Old(line) => regular(line, work, out, want),
     }
 }
 
 // Lends a work area of `w` bytes and an output of `o`, where there is room for them.
-fn lend(call: Call, w: u64, o: u64, want: Answer, expected: &[u8]) -> Verdict
-    ensures { Judges result (Agrees call.entry (replicate w 170) (replicate o 187) want expected.now) }
+fn lend(call: Call, w: u64, o: u64, want: Want) -> Verdict
+    ensures { Judges result (Agrees call.entry (replicate w 170) (replicate o 187) want.entry.answer want.entry.text.now) }
 {
-    let w = w as usize;
-    let o = o as usize;
+    let (Ok(w), Ok(o)) = (usize::try_from(w), usize::try_from(o)) else {
+        return Verdict::Skipped;
+    };
     let mut work = [WORK_FILL; WORK_ROOM];
     let mut out = [OUT_FILL; OUT_ROOM];
     if w > WORK_ROOM || o > OUT_ROOM {
         return Verdict::Skipped;
     }
-    judged(agrees(call, &mut work[..w], &mut out[..o], want, expected))
+    judged(agrees(call, &mut work[..w], &mut out[..o], want))
 }
 
 // What a number may be for one digit more to follow.
 const MOST_BEFORE: u64 = 999999;
 
-// A number of a header: digits, leading zeros and all, that say less than ten millions.
+// A number of a header: digits, leading zeros and all, that say less than ten millions. (By hand: `text::decimal` refuses leading zeros, and
+// knows no such limit.)
 fn number(digits: &[u8]) -> Option<u64> {
     if digits.is_empty() {
         return None;
@@ -193,12 +199,16 @@ fn replay_text<'a, F: FnOnce(&'a [u8]) -> Call<'a>>(
     let [refused, first, work, out, text, expected] = cases.header::<6, _>(letter, number)?;
     let text = cases.part(text)?;
     let expected = cases.part(expected)?;
-    let want = Answer {
+    let answer = Answer {
         number: refused,
         first,
         second: 0,
     };
-    Some(lend(call(text), work, out, want, expected))
+    let want = Want {
+        answer,
+        text: expected,
+    };
+    Some(lend(call(text), work, out, want))
 }
 
 fn replay_pair(cases: &mut Cases) -> Option<Verdict> {
@@ -206,12 +216,16 @@ fn replay_pair(cases: &mut Cases) -> Option<Verdict> {
     let a = cases.part(a)?;
     let b = cases.part(b)?;
     let expected = cases.part(expected)?;
-    let want = Answer {
+    let answer = Answer {
         number: refused,
         first,
         second,
     };
-    Some(lend(Call::Pair(a, b), work, out, want, expected))
+    let want = Want {
+        answer,
+        text: expected,
+    };
+    Some(lend(Call::Pair(a, b), work, out, want))
 }
 
 fn replay_case(cases: &mut Cases) -> Option<Verdict> {

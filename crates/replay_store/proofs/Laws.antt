@@ -26,11 +26,11 @@ kept-so a want s after r e q =
       no = λ f k. apart s after (sym q ∙ f) (ap (λ (x : Kept). x.store) k);
     }
 
-pub looked-so : (k : Kept) (u : ℕ) (want : Answer) (t line s : Bytes) (r : Bool) → looked_as 0 u t s ≡ k → want.number ≡ 0 → want.first ≡ u → r ≡ same t line → Decides r (k ≡ looked_as want.number want.first line s)
-looked-so k u want t line s r told p q e =
+pub looked-so : (n u m v : ℕ) (t line : Bytes) (r : Bool) → n ≡ m → u ≡ v → r ≡ same t line → (s : Bytes) → Decides r (looked_as n u t s ≡ looked_as m v line s)
+looked-so n u m v t line r p q e s =
     record {
-      yes = λ v. sym told ∙ rw (p, q) (ap (λ (x : Bytes). looked_as 0 u x s) (same-eq (sym e ∙ v)));
-      no = λ f z. apart t line (sym e ∙ f) (ap (λ (x : Kept). x.told.text) (told ∙ z));
+      yes = λ w. rw (p, q) (ap (λ (x : Bytes). looked_as m v x s) (same-eq (sym e ∙ w)));
+      no = λ f z. apart t line (sym e ∙ f) (ap (λ (x : Kept). x.told.text) z);
     }
 
 -- ## A front, and zeros behind it

@@ -27,6 +27,13 @@ enum Call<'a> {
     LookUp(u64, &'a [u8]),
 }
 
+// What a case says of its call: the answer, and the front of the store that it leaves, or the line that a look-up must find.
+#[derive(Clone, Copy)]
+struct Want<'a> {
+    answer: Answer,
+    text: &'a [u8],
+}
+
 fn of_entered(outcome: Result<Entered, Refused>) -> Answer
     ensures { (s : Bytes) → kept_of result s ≡ entered_by outcome s }
 {
@@ -39,74 +46,91 @@ fn of_entered(outcome: Result<Entered, Refused>) -> Answer
 fn of_released(outcome: Result<u32, Refused>) -> Answer
     ensures { (s : Bytes) → kept_of result s ≡ released_by outcome s }
 {
-    match outcome {
-        Ok(uses) => Answer::accepted(u64::from(uses), 0),
-        Err(refused) => Answer::from(refused),
-    }
+    Answer::of_one(outcome.map(u64::from))
 }
 
 // Whether the answer and every byte of the store are as the case says.
-fn is_kept(answer: Answer, store: &[u8], want: Answer, after: &[u8]) -> bool
-    ensures { Decides result (kept_of answer store.now ≡ kept_of want after.now) }
+fn is_kept(answer: Answer, store: &[u8], want: Want) -> bool
+    ensures { Decides result (kept_of answer store.now ≡ kept_of want.entry.answer want.entry.text.now) }
 {
-    answer == want && text::same(store, after)
+    answer == want.answer && text::same(store, want.text)
 }
 
 // Enters a text.
-fn enter(store: &mut [u8], line: &[u8], want: Answer, after: &[u8]) -> bool
-    ensures { Decides result (store_call store.old (entering line.now) ≡ kept_of want after.now) }
+fn enter(store: &mut [u8], line: &[u8], want: Want) -> bool
+    ensures { Decides result (store_call store.old (entering line.now) ≡ kept_of want.entry.answer want.entry.text.now) }
 {
     let answer = of_entered(catalogue::enter(store, line));
-    is_kept(answer, store, want, after)
+    is_kept(answer, store, want)
 }
 
 // Releases a use.
-fn release(store: &mut [u8], number: u64, want: Answer, after: &[u8]) -> bool
-    ensures { Decides result (store_call store.old (releasing number) ≡ kept_of want after.now) }
+fn release(store: &mut [u8], number: u64, want: Want) -> bool
+    ensures { Decides result (store_call store.old (releasing number) ≡ kept_of want.entry.answer want.entry.text.now) }
 {
     let answer = of_released(catalogue::release(store, number));
-    is_kept(answer, store, want, after)
+    is_kept(answer, store, want)
+}
+
+// Whether the numbers and the line that was found are as the case says.
+fn is_found(answer: Answer, found: &[u8], want: Want) -> bool
+    ensures { (s : Bytes) → Decides result (looked_as answer.number answer.first found.now s ≡ looked_as want.entry.answer.number want.entry.answer.first want.entry.text.now s) }
+{
+    answer.number == want.answer.number
+        && answer.first == want.answer.first
+        && text::same(found, want.text)
 }
 
 // Looks up; the store is only read.
-fn look_up(store: &[u8], number: u64, want: Answer, line: &[u8]) -> bool
-    ensures { Decides result (store_call store.now (looking_up number) ≡ looked_as want.number want.first line.now store.now) }
+fn look_up(store: &[u8], number: u64, want: Want) -> bool
+    ensures { Decides result (store_call store.now (looking_up number) ≡ looked_as want.entry.answer.number want.entry.answer.first want.entry.text.now store.now) }
 {
     match catalogue::look_up(store, number) {
         Ok(found) => {
-            want.number == 0 && want.first == u64::from(found.uses) && text::same(found.line, line)
+            let answer = Answer::accepted(u64::from(found.uses), 0);
+            is_found(answer, found.line, want)
         }
-        Err(refused) => {
-            let answer = Answer::from(refused);
-            answer.number == want.number && answer.first == want.first && line.is_empty()
-        }
+        Err(refused) => is_found(Answer::from(refused), b"", want),
     }
 }
 
 // Whether the call does as the case says.
-fn agrees(call: Call, store: &mut [u8], want: Answer, after: &[u8]) -> bool
-    ensures { Decides result (Agrees call.entry store.old want after.now) }
+fn agrees(call: Call, store: &mut [u8], want: Want) -> bool
+    ensures { Decides result (Agrees call.entry store.old want.entry.answer want.entry.text.now) }
 {
     match call {
-        Call::Enter(line) => enter(store, line, want, after),
-        Call::Release(number) => release(store, number, want, after),
-        Call::LookUp(number, line) => look_up(store, number, want, line),
+        Call::Enter(line) => enter(store, line, want),
+        Call::Release(number) => release(store, number, want),
+        Call::LookUp(number, line) => {
+            let found = Want {
+                answer: want.answer,
+                text: line,
+            };
+            look_up(store, number, found)
+        }
     }
 }
 
 // Lends a store of `size` bytes, the front and then zeros.
-fn lend(call: Call, front: &[u8], size: u64, want: Answer, after: &[u8]) -> Verdict
-    ensures { Judges result (Agrees call.entry (padded front.now size) want (padded after.now size)) }
+fn lend(call: Call, front: &[u8], size: u64, want: Want) -> Verdict
+    ensures { Judges result (Agrees call.entry (padded front.now size) want.entry.answer (padded want.entry.text.now size)) }
 {
-    let size = size as usize;
+    let Ok(size) = usize::try_from(size) else {
+        return Verdict::Skipped;
+    };
     let mut store = [0u8; STORE_ROOM];
     let mut left = [0u8; STORE_ROOM];
+    let after = want.text;
     if size > STORE_ROOM || front.len() > size || after.len() > size {
         return Verdict::Skipped;
     }
     text::append(&mut store, 0, front);
     text::append(&mut left, 0, after);
-    judged(agrees(call, &mut store[..size], want, &left[..size]))
+    let want = Want {
+        answer: want.answer,
+        text: &left[..size],
+    };
+    judged(agrees(call, &mut store[..size], want))
 }
 
 // A number of a header, in decimal.
@@ -119,36 +143,45 @@ fn replay_enter(cases: &mut Cases) -> Option<Verdict> {
     let front = cases.part(front)?;
     let text = cases.part(text)?;
     let after = cases.part(after)?;
-    let want = Answer {
+    let answer = Answer {
         number: refused,
         first,
         second,
     };
-    Some(lend(Call::Enter(text), front, size, want, after))
+    let want = Want {
+        answer,
+        text: after,
+    };
+    Some(lend(Call::Enter(text), front, size, want))
 }
 
 fn replay_release(cases: &mut Cases) -> Option<Verdict> {
     let [refused, first, size, released, front, after] = cases.header::<6, _>(b'R', number)?;
     let front = cases.part(front)?;
     let after = cases.part(after)?;
-    let want = Answer {
+    let answer = Answer {
         number: refused,
         first,
         second: 0,
     };
-    Some(lend(Call::Release(released), front, size, want, after))
+    let want = Want {
+        answer,
+        text: after,
+    };
+    Some(lend(Call::Release(released), front, size, want))
 }
 
 fn replay_look_up(cases: &mut Cases) -> Option<Verdict> {
     let [refused, first, size, looked_up, front, line] = cases.header::<6, _>(b'L', number)?;
     let front = cases.part(front)?;
     let line = cases.part(line)?;
-    let want = Answer {
+    let answer = Answer {
         number: refused,
         first,
         second: 0,
     };
-    Some(lend(Call::LookUp(looked_up, line), front, size, want, b""))
+    let want = Want { answer, text: b"" };
+    Some(lend(Call::LookUp(looked_up, line), front, size, want))
 }
 
 fn replay_case(cases: &mut Cases) -> Option<Verdict> {

@@ -2,10 +2,12 @@
 ghost use Rattle.std.specs.Prelude.{◌≡◌};
 ghost use Rattle.semantics.specs.Refusals.{number_of};
 ghost use Rattle.replaying.specs.Judged.{judged};
+ghost use Rattle.replaying.specs.Answers.{answered};
 
 use semantics::Refused;
 
-// The number of a call and its two numbers.
+// The number of a call and its two numbers, as a case says them: any number may stand there, and 0 is that of an accepted call, so that an
+// enum would have a way for numbers that no call returns.
 #[derive(Clone, Copy, PartialEq, Eq)]
 pub struct Answer {
     pub number: u64,
@@ -24,6 +26,16 @@ impl Answer {
             second,
         }
     }
+
+    // The answer of a call that tells one number.
+    pub fn of_one(outcome: Result<u64, Refused>) -> Answer
+        ensures { result ≡ answered outcome }
+    {
+        match outcome {
+            Ok(first) => Answer::accepted(first, 0),
+            Err(refused) => Answer::from(refused),
+        }
+    }
 }
 
 impl From<Refused> for Answer {
@@ -31,7 +43,7 @@ impl From<Refused> for Answer {
 
     fn from(refused: Refused) -> Answer {
         Answer {
-            number: u64::from(u32::from(refused.why)),
+            number: u64::from(refused.why),
             first: refused.place,
             second: 0,
         }
@@ -46,6 +58,7 @@ pub enum Verdict {
     Skipped,
 }
 
+// (No `From<bool>`: it would not say at the call which of the two is `Same`.)
 pub fn judged(is_same: bool) -> Verdict
     ensures { result ≡ judged is_same }
 {

@@ -64,9 +64,9 @@ impl<'a> Cases<'a> {
         let mut values = [0u64; N];
         self.past(letter)?;
         self.past(b' ')?;
-        for i in 0..N {
+        for (i, value) in values.iter_mut().enumerate() {
             let separator = if i + 1 < N { b' ' } else { LINE_END };
-            values[i] = number(self.digits(separator)?)?;
+            *value = number(self.digits(separator)?)?;
         }
         Some(values)
     }
@@ -75,7 +75,8 @@ impl<'a> Cases<'a> {
     pub fn part(&mut self, n: u64) -> Option<&'a [u8]>
         ensures { IfSome result (λ part. IsPart n part.now self.old.rest.now self.new.rest.now) }
     {
-        let (part, behind) = self.rest.split_at_checked(n as usize)?;
+        let long = usize::try_from(n).ok()?;
+        let (part, behind) = self.rest.split_at_checked(long)?;
         self.rest = behind;
         self.past(LINE_END)?;
         Some(part)

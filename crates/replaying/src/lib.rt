@@ -11,7 +11,7 @@ use std::io;
 pub use tally::Tally;
 
 // The cases of `src`, one behind the other, each by `case`. A case that does not go on is malformed too.
-pub fn replay_all<'a, F: Fn(&mut Cases<'a>) -> Option<Verdict>>(src: &'a [u8], case: F) -> Tally
+fn replay_all<'a, F: Fn(&mut Cases<'a>) -> Option<Verdict>>(src: &'a [u8], case: F) -> Tally
     requires { F.IsAlwaysCallable case }
 {
     let mut tally = Tally::new();
@@ -22,7 +22,7 @@ pub fn replay_all<'a, F: Fn(&mut Cases<'a>) -> Option<Verdict>>(src: &'a [u8], c
         match verdict {
             Some(verdict) if cases.len() < left => tally.add(verdict),
             _ => {
-                tally.is_malformed = true;
+                tally.malformed = Some(tally.met);
                 return tally;
             }
         }

@@ -1,30 +1,30 @@
 // How the cases went.
-ghost use Rattle.std.specs.Prelude.{◌≡◌, false};
+ghost use Rattle.std.specs.Prelude.{◌≡◌};
 ghost use Rattle.replaying.specs.Judged.{counted};
 
 use crate::answer::Verdict;
 use std::fmt;
 
-// How many cases were met, differ and were skipped, the first that differs, and whether the case behind the last is malformed.
+// How many cases were met, differ and were skipped, the first that differs, and the one that is malformed, behind the last.
 #[derive(Clone, Copy)]
 pub struct Tally {
     pub met: u64,
     pub differ: u64,
     pub skipped: u64,
     pub first: Option<u64>,
-    pub is_malformed: bool,
+    pub malformed: Option<u64>,
 }
 
 impl Tally {
     pub fn new() -> Tally
-        ensures { result ≡ record { met = 0; differ = 0; skipped = 0; first = None; is_malformed = false } }
+        ensures { result ≡ record { met = 0; differ = 0; skipped = 0; first = None; malformed = None } }
     {
         Tally {
             met: 0,
             differ: 0,
             skipped: 0,
             first: None,
-            is_malformed: false,
+            malformed: None,
         }
     }
 
@@ -55,8 +55,8 @@ impl fmt::Display for Tally {
         if let Some(first) = self.first {
             write!(f, ", the first that differs is case {first}")?;
         }
-        if self.is_malformed {
-            write!(f, ", malformed at case {met}")?;
+        if let Some(case) = self.malformed {
+            write!(f, ", malformed at case {case}")?;
         }
         Ok(())
     }

@@ -15,12 +15,11 @@ use Rattle.semantics.specs.Walk.{Fault, fault_2009, fault_2010, fault_2011, faul
 use Rattle.semantics.specs.Calls.{type_name, fault_text, fault_line, top_line, fault_count, end_line, top_lines, report_lines, report}
 use Rattle.text.proofs.Laws.{sets-append}
 use Rattle.ty.specs.Read.{kind_of}
-use Rattle.ty.specs.Kind.{SomeKind, NamesKind}
 use Rattle.ty.proofs.KindLaws.{kind-name}
 use Rattle.builtins.proofs.Laws.{name-short, describe-short}
 use Rattle.writer.specs.declared.Writer.{Writer}
 use Rattle.writer.specs.Written.{Wrote}
-use Rattle.report.specs.declared.Tally.{Tally}
+use Rattle.report.specs.declared.Report.{Report}
 use Rattle.report.specs.declared.TypeFault.{TypeFault}
 use Rattle.report.specs.declared.TypeFault.TheVariants.{E2009, E2010, E2011, E2013}
 use Rattle.report.specs.Report.{faults_text, type_text, tops_text, end_text, fault_head, Appends, Adds, code_fault, code_of, OpenKind}
@@ -42,10 +41,9 @@ wrote s p = record { text = p.1; end = p.0 }
 pub one : (b : ℕ) {o o' : Bytes} {f r : ℕ} → (r ≡ f + 1) × (o' ≡ set o f b) → Appends (b ∷ []) o o' f r
 one b p = record { text = p.1; end = p.0 }
 
--- what a writer wrote on the output
-pub wrote_line : {s : Bytes} {w w' : Writer} {o o' : Bytes} {f r : ℕ} → Wrote s w w' → w.out.now ≡ o → w.fill ≡ f → o' ≡ w'.out.now → r ≡ w'.fill → Appends s o o' f r
-wrote_line {s} p a b c d =
-    record { text = c ∙ p.text ∙ ap₂ (λ (x : Bytes) (k : ℕ). sets x k s) a b; end = d ∙ p.end ∙ ap (λ (k : ℕ). k + length s) b }
+-- what a writer wrote
+pub wrote_line : {s : Bytes} {w w' : Writer} → Wrote s w w' → Appends s w.out.now w'.out.now w.fill w'.fill
+wrote_line p = record { text = p.text; end = p.end }
 
 -- ## Faults
 
@@ -56,28 +54,28 @@ faults-append (f ∷ fs) gs =
     ap (λ (s : Bytes). fault_line f ++ (10 ∷ s)) (faults-append fs gs) ∙ sym (append_assoc (fault_line f) (10 ∷ faults_text fs) (faults_text gs))
 
 -- no faults, the text alone, and faults behind faults
-pub adds_none : {out : Bytes} {t : Tally} → Adds [] out out t t
+pub adds_none : {r : Report} → Adds [] r r
 unfolding faults_text
 adds_none = record { text = refl; end = omega arith; count = omega arith }
 
-pub adds-text : {fs : List Fault} {out out' : Bytes} {t t' : Tally} → Adds fs out out' t t' → Appends (faults_text fs) out out' t.fill t'.fill
+pub adds-text : {fs : List Fault} {r r' : Report} → Adds fs r r' → Appends (faults_text fs) r.writer.now.out.now r'.writer.now.out.now r.writer.now.fill r'.writer.now.fill
 adds-text p = record { text = p.text; end = p.end }
 
-pub adds_then : {fs gs : List Fault} {out out' out'' : Bytes} {t t' t'' : Tally} → Adds fs out out' t t' → Adds gs out' out'' t' t'' → Adds (fs ++ gs) out out'' t t''
-adds_then {fs} {gs} {out} {out'} {out''} {t} {t'} {t''} p q =
-    let w : Appends (faults_text fs ++ faults_text gs) out out'' t.fill t''.fill = adds-text p ▹ adds-text q in
+pub adds_then : {fs gs : List Fault} {r r' r'' : Report} → Adds fs r r' → Adds gs r' r'' → Adds (fs ++ gs) r r''
+adds_then {fs} {gs} {r} {r'} {r''} p q =
+    let w : Appends (faults_text fs ++ faults_text gs) r.writer.now.out.now r''.writer.now.out.now r.writer.now.fill r''.writer.now.fill = adds-text p ▹ adds-text q in
     let e = faults-append fs gs in
     record {
-      text = w.text ∙ ap (sets out t.fill) (sym e);
-      end = w.end ∙ ap (λ (s : Bytes). t.fill + length s) (sym e);
+      text = w.text ∙ ap (sets r.writer.now.out.now r.writer.now.fill) (sym e);
+      end = w.end ∙ ap (λ (s : Bytes). r.writer.now.fill + length s) (sym e);
       count = omega (arith, p.count, q.count, length-append fs gs);
     }
 
 -- a line that was written, and counted
-pub adds-line : (f : Fault) {s out out' : Bytes} {t t' : Tally} → s ≡ fault_line f ++ (10 ∷ []) → Appends s out out' t.fill t'.fill → t'.faults ≡ t.faults + 1 → Adds (f ∷ []) out out' t t'
+pub adds-line : (f : Fault) {s : Bytes} {r r' : Report} → s ≡ fault_line f ++ (10 ∷ []) → Wrote s r.writer.now r'.writer.now → r'.faults ≡ r.faults + 1 → Adds (f ∷ []) r r'
 unfolding faults_text
-adds-line f {s} {out} {out'} {t} e w m =
-    record { text = w.text ∙ ap (sets out t.fill) e; end = w.end ∙ ap (λ (x : Bytes). t.fill + length x) e; count = m }
+adds-line f {s} {r} {r'} e w m =
+    record { text = w.text ∙ ap (sets r.writer.now.out.now r.writer.now.fill) e; end = w.end ∙ ap (λ (x : Bytes). r.writer.now.fill + length x) e; count = m }
 
 pub head-long : (c : TypeFault) → length (fault_head (code_of c)) ≡ 7
 unfolding text shown shown_in
@@ -113,10 +111,6 @@ only e = cc
 -- how long they are
 type-name-short : (t : Ty) → length (type_name t) ≤ 12
 type-name-short t = (kind-name t).short
-
--- the name of some kind is short
-pub kind-short : {k : ℕ} {n : Bytes} → SomeKind k → NamesKind k n → length n ≤ 12
-kind-short s h = omega (arith, ap length (h s.ty s.is), type-name-short s.ty)
 
 body-short : (f : Fault) → length (fault_text f) ≤ 51
 unfolding fault_text text

@@ -7,7 +7,7 @@ use Rattle.semantics.specs.Ty.{Ty}
 use Rattle.semantics.specs.Walk.{Fault, fault_2009, fault_2010, fault_2011, fault_2013, Top, is_open}
 use Rattle.semantics.specs.Calls.{fault_line, top_line}
 use Rattle.ty.specs.Read.{kind_of}
-use Rattle.report.specs.declared.Tally.{Tally}
+use Rattle.report.specs.declared.Report.{Report}
 use Rattle.report.specs.declared.TypeFault.{TypeFault}
 use Rattle.report.specs.declared.TypeFault.TheVariants.{E2009, E2010, E2011, E2013}
 
@@ -48,15 +48,15 @@ pub record NumbersLine (s : Bytes) (n m : ℕ) (out out' : Bytes) (fill fill' : 
   pub short : fill' ≤ fill + length s + 42
 
 -- the counts can grow by one fault
-pub record HasRoom (t : Tally) : Type 0 where
-  pub fill : t.fill + 128 < 2 ^ 64
-  pub faults : t.faults + 1 < 2 ^ 64
+pub record HasRoom (r : Report) : Type 0 where
+  pub fill : r.writer.now.fill + 128 < 2 ^ 64
+  pub faults : r.faults + 1 < 2 ^ 64
 
 -- these faults were added
-pub record Adds (fs : List Fault) (out out' : Bytes) (t t' : Tally) : Type 0 where
-  pub text : out' ≡ sets out t.fill (faults_text fs)
-  pub end : t'.fill ≡ t.fill + length (faults_text fs)
-  pub count : t'.faults ≡ t.faults + length fs
+pub record Adds (fs : List Fault) (r r' : Report) : Type 0 where
+  pub text : r'.writer.now.out.now ≡ sets r.writer.now.out.now r.writer.now.fill (faults_text fs)
+  pub end : r'.writer.now.fill ≡ r.writer.now.fill + length (faults_text fs)
+  pub count : r'.faults ≡ r.faults + length fs
 
 -- the fault of a code that tells one type, and the code's number
 abbrev pub code_fault : TypeFault → Ty → Fault

@@ -1,17 +1,18 @@
-// The lines of the report, each written by a `Writer`: appended to the output, what fits written, all counted (RULES 6).
+// The lines of the report: appended to the output, what fits written, all counted (RULES 6).
 #![tactic(auto)]
 
 ghost use Rattle.std.specs.Prelude.{◌≡◌, [], ◌∷◌, ◌+◌, ◌<◌, ◌^◌, length};
 ghost use Rattle.semantics.specs.Bytes.{text};
 ghost use Rattle.semantics.specs.Ty.{Ty, line};
+ghost use Rattle.semantics.specs.Refusals.{number_of};
 ghost use Rattle.semantics.specs.Walk.{fault_2012, fault_5012};
 ghost use Rattle.semantics.specs.Builtins.{signature};
 ghost use Rattle.ty.specs.Read.{kind_of};
-ghost use Rattle.ty.specs.Kind.{SomeKind};
 ghost use Rattle.builtins.specs.Rows.{builtin_of};
 ghost use Rattle.report.specs.Report.{Appends, Adds, fault_head, code_fault, code_of, HasRoom, OpenKind, NumbersLine, type_text, end_text};
 
 use builtins::Builtin;
+use semantics::Refused;
 use text::COMMA;
 use ty::{ANY, UNKNOWN};
 use writer::Writer;
@@ -44,61 +45,85 @@ impl TypeFault {
     }
 }
 
-// How far the output is filled, whether it fits or not, and how many faults there are.
-#[derive(Clone, Copy)]
-pub struct Tally {
-    pub fill: usize,
-    pub faults: usize,
+// What is written of a sheet's types: the output with how far it is filled, whether it fits or not, and how many faults are told. Each line
+// uses up room of the two counts, so that some is left (`HasRoom`, `Countable` of two) is asked of whoever adds one, and no invariant.
+// The writer stands behind a reference, and a report is written out where it is made, with no `new`: of an output that is lent to a struct
+// inside an owned struct, or through a function that makes one, nothing but its length proves at the end. Each function that takes a report says that its writer and its output keep their names: across a
+// call the check follows a lent output by that alone.
+#[derive(Drop)]
+pub struct Report<'w, 'a> {
+    pub writer: &'w mut Writer<'a>,
+    pub faults: u64,
 }
 
-// A fault that tells one type, by its letter.
-pub fn fault(out: &mut [u8], t: Tally, code: TypeFault, kind: u8) -> Tally
-    requires { HasRoom t × SomeKind kind }
-    ensures { (u : Ty) → kind_of u ≡ kind → Adds (code_fault code u ∷ []) out.old out.new t result }
-{
-    let mut w = Writer::new(out, t.fill);
-    w.write(code.head());
-    w.write(ty::type_name(kind));
-    w.end_line();
-    Tally {
-        fill: w.fill,
-        faults: t.faults + 1,
+impl<'w, 'a> Report<'w, 'a> {
+    // A fault that tells one type, by its letter.
+    pub fn fault(&mut self, code: TypeFault, kind: u8)
+        requires { HasRoom self.old }
+        ensures keeps { self.new.writer.ghost_name ≡ self.old.writer.ghost_name }
+        ensures keeps_out { self.new.writer.now.out.ghost_name ≡ self.old.writer.now.out.ghost_name }
+        ensures adds { (u : Ty) → kind_of u ≡ kind → Adds (code_fault code u ∷ []) self.old self.new }
+    {
+        self.writer.write(code.head());
+        self.writer.write(ty::type_name(kind));
+        self.writer.end_line();
+        self.faults += 1;
     }
-}
 
-// A left side of IN that has no type in common with the list's elements: the operand's and the element's type.
-pub fn fault_in(out: &mut [u8], t: Tally, kind: u8, element: u8) -> Tally
-    requires { HasRoom t × SomeKind kind × SomeKind element }
-    ensures { (u v : Ty) → kind_of u ≡ kind → kind_of v ≡ element → Adds (fault_2012 u v ∷ []) out.old out.new t result }
-{
-    let mut w = Writer::new(out, t.fill);
-    w.write(b"F,2012,");
-    w.write(ty::type_name(kind));
-    w.put(COMMA);
-    w.write(ty::type_name(element));
-    w.end_line();
-    Tally {
-        fill: w.fill,
-        faults: t.faults + 1,
+    // A left side of IN that has no type in common with the list's elements: the operand's and the element's type.
+    pub fn fault_in(&mut self, kind: u8, element: u8)
+        requires { HasRoom self.old }
+        ensures keeps { self.new.writer.ghost_name ≡ self.old.writer.ghost_name }
+        ensures keeps_out { self.new.writer.now.out.ghost_name ≡ self.old.writer.now.out.ghost_name }
+        ensures adds { (u v : Ty) → kind_of u ≡ kind → kind_of v ≡ element → Adds (fault_2012 u v ∷ []) self.old self.new }
+    {
+        self.writer.write(b"F,2012,");
+        self.writer.write(ty::type_name(kind));
+        self.writer.put(COMMA);
+        self.writer.write(ty::type_name(element));
+        self.writer.end_line();
+        self.faults += 1;
     }
-}
 
-// An argument that a built-in does not take: its name, the argument's type, what was expected.
-pub fn fault_call(out: &mut [u8], t: Tally, builtin: Builtin, kind: u8) -> Tally
-    requires { HasRoom t × SomeKind kind }
-    ensures { (u : Ty) → kind_of u ≡ kind → (s : _) → (signature (builtin_of builtin)).params ≡ s ∷ [] → Adds (fault_5012 (builtin_of builtin) u s ∷ []) out.old out.new t result }
-{
-    let mut w = Writer::new(out, t.fill);
-    w.write(b"F,5012,");
-    w.write(builtin.name());
-    w.put(COMMA);
-    w.write(ty::type_name(kind));
-    w.put(COMMA);
-    w.write(builtin.param().describe());
-    w.end_line();
-    Tally {
-        fill: w.fill,
-        faults: t.faults + 1,
+    // An argument that a built-in does not take: its name, the argument's type, what was expected.
+    pub fn fault_call(&mut self, builtin: Builtin, kind: u8)
+        requires { HasRoom self.old }
+        ensures keeps { self.new.writer.ghost_name ≡ self.old.writer.ghost_name }
+        ensures keeps_out { self.new.writer.now.out.ghost_name ≡ self.old.writer.now.out.ghost_name }
+        ensures adds { (u : Ty) → kind_of u ≡ kind → (s : _) → (signature (builtin_of builtin)).params ≡ s ∷ [] → Adds (fault_5012 (builtin_of builtin) u s ∷ []) self.old self.new }
+    {
+        self.writer.write(b"F,5012,");
+        self.writer.write(builtin.name());
+        self.writer.put(COMMA);
+        self.writer.write(ty::type_name(kind));
+        self.writer.put(COMMA);
+        self.writer.write(builtin.param().describe());
+        self.writer.end_line();
+        self.faults += 1;
+    }
+
+    // The line of a top expression's type.
+    #[tactic(auto, unfolding(semantics::specs::Calls::top_line), using(crate::proofs::ReportLaws::wrote_line))]
+    pub fn type_line(&mut self, text: &[u8])
+        requires { self.old.writer.now.fill + length text.now + 3 < 2 ^ 64 }
+        ensures keeps { self.new.writer.ghost_name ≡ self.old.writer.ghost_name }
+        ensures keeps_out { self.new.writer.now.out.ghost_name ≡ self.old.writer.now.out.ghost_name }
+        ensures line { (u : Ty) → text.now ≡ line u → Appends (type_text u) self.old.writer.now.out.now self.new.writer.now.out.now self.old.writer.now.fill self.new.writer.now.fill }
+        ensures same { self.new.faults ≡ self.old.faults }
+    {
+        self.writer.line(b"T,", text);
+    }
+
+    // The last line.
+    #[tactic(auto, unfolding(semantics::specs::Bytes::text))]
+    pub fn end_line(&mut self, types: u64)
+        requires { self.old.writer.now.fill + 64 < 2 ^ 64 }
+        ensures keeps { self.new.writer.ghost_name ≡ self.old.writer.ghost_name }
+        ensures keeps_out { self.new.writer.now.out.ghost_name ≡ self.old.writer.now.out.ghost_name }
+        ensures line { Appends (end_text types self.old.faults) self.old.writer.now.out.now self.new.writer.now.out.now self.old.writer.now.fill self.new.writer.now.fill }
+    {
+        let faults = self.faults;
+        numbers_line(&mut *self.writer, b"end,", types, faults);
     }
 }
 
@@ -109,40 +134,26 @@ pub fn is_open(kind: u8) -> bool
     kind == ANY || kind == UNKNOWN
 }
 
-// The line of a top expression's type.
-pub fn type_line(out: &mut [u8], fill: usize, text: &[u8]) -> usize
-    requires { fill + length text.now + 3 < 2 ^ 64 }
-    ensures { (u : Ty) → text.now ≡ line u → Appends (type_text u) out.old out.new fill result }
-{
-    writer::line(out, fill, b"T,", text)
-}
-
 // A line of a head and two numbers.
-pub fn numbers_line(out: &mut [u8], fill: usize, head: &[u8], first: u64, second: u64) -> usize
-    requires { fill + length head.now + 42 < 2 ^ 64 }
-    ensures { NumbersLine head.now first second out.old out.new fill result }
+pub fn numbers_line(writer: &mut Writer<'_>, head: &[u8], first: u64, second: u64)
+    requires { writer.old.fill + length head.now + 42 < 2 ^ 64 }
+    ensures keeps { writer.new.out.ghost_name ≡ writer.old.out.ghost_name }
+    ensures line { NumbersLine head.now first second writer.old.out.now writer.new.out.now writer.old.fill writer.new.fill }
 {
-    let mut w = Writer::new(out, fill);
-    w.write(head);
-    w.decimal(first);
-    w.put(COMMA);
-    w.decimal(second);
-    w.end_line();
-    w.fill
-}
-
-// The last line.
-pub fn end_line(out: &mut [u8], fill: usize, types: u64, faults: u64) -> usize
-    requires { fill + 64 < 2 ^ 64 }
-    ensures { Appends (end_text types faults) out.old out.new fill result }
-{
-    numbers_line(out, fill, b"end,", types, faults)
+    writer.write(head);
+    writer.decimal(first);
+    writer.put(COMMA);
+    writer.decimal(second);
+    writer.end_line();
 }
 
 // What a program prints of a refusal (RULES 7.9): at most 50 bytes.
-pub fn refused_line(out: &mut [u8], fill: usize, number: u64, place: u64) -> usize
-    requires { fill + 64 < 2 ^ 64 }
-    ensures { NumbersLine (text "refused,") number place out.old out.new fill result }
+#[tactic(auto, unfolding(semantics::specs::Bytes::text))]
+pub fn refused_line(writer: &mut Writer<'_>, refused: Refused)
+    requires { writer.old.fill + 64 < 2 ^ 64 }
+    ensures keeps { writer.new.out.ghost_name ≡ writer.old.out.ghost_name }
+    ensures line { NumbersLine (text "refused,") (number_of refused.why) refused.place writer.old.out.now writer.new.out.now writer.old.fill writer.new.fill }
 {
-    numbers_line(out, fill, b"refused,", number, place)
+    let number = u64::from(refused.why);
+    numbers_line(writer, b"refused,", number, refused.place);
 }

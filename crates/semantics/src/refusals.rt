@@ -54,9 +54,26 @@ impl From<Refusal> for u32 {
     }
 }
 
+impl From<Refusal> for u64 {
+    ghost from_gives = { NumberOf };
+
+    fn from(why: Refusal) -> u64 {
+        u64::from(u32::from(why))
+    }
+}
+
 // What a call answers when it refuses, with the number that it returns beside it: a place, a line, or 0.
 #[derive(Clone, Copy, Debug, PartialEq, Eq)]
 pub struct Refused {
     pub why: Refusal,
     pub place: u64,
+}
+
+// A refusal that has no place says 0.
+impl From<Refusal> for Refused {
+    ghost from_gives = { λ why refused. refused ≡ record { why = why; place = 0 } };
+
+    fn from(why: Refusal) -> Refused {
+        Refused { why, place: 0 }
+    }
 }

@@ -1,4 +1,4 @@
--- Cases of the type catalogue at its limits (RULES 10.4, ask 12), by computation. Assumes nothing.
+-- Cases of the type catalogue at its limits (RULES 10.4), by computation. Assumes nothing.
 use mathlib.Core.Path.{◌≡◌, refl, ◌∙◌}
 use mathlib.Core.List.{List, [], ◌∷◌, ◌++◌}
 use mathlib.Core.Option.{Option, none}

@@ -1,4 +1,4 @@
--- The type catalogue (RULES 10.4, ask 12): a plain list of live types, the bytes of the store that hold it, and the calls on either.
+-- The type catalogue (RULES 10.4): a plain list of live types, the bytes of the store that hold it, and the calls on either.
 use Rattle.std.specs.Prelude.{◌≡◌, List, [], ◌∷◌, ◌++◌, Bool, true, false, ◌&&◌, ◌||◌, not, ℕ, zero, suc, ◌+◌, ◌-◌, ◌*◌, ◌/◌, ◌%◌, length, take, drop, replicate, eqb, ltb, leb}
 use Rattle.std.proofs.Math.Option.{Option, none, some}
 use Rattle.semantics.specs.Codes.{no_type_line, wrong_size, store_full, count_used_up, not_live}

@@ -1,4 +1,4 @@
-// Stores of types (RULES 10.4, ask 12): the definition is specs/Catalogue.antt; this function promises what is claimed of it alone.
+// Stores of types (RULES 10.4): the definition is specs/Catalogue.antt; this function promises what is claimed of it alone.
 #![tactic(auto)]
 
 ghost use Rattle.stores.specs.Catalogue.{AnyCalls};

@@ -1,11 +1,11 @@
 -- A number's decimal digits from the first: powers of ten and what they leave. Assumes nothing.
 use Prim.Native.Nat.{ℕ, zero, suc, ◌+◌, ◌-◌, ◌*◌, ◌/◌, ◌%◌, ◌^◌, ◌≤◌, ◌<◌}
-use native.Mathlib.Nat.{pow-suc, suc-mul, mul_assoc, div-eq_of_lt-le, div-add-mod', mod-lt, one-le-pow, lt_of_mul-lt-mul_right}
+use native.Mathlib.Nat.{add-zero, add-suc, suc-add, zero-add, pow-suc, suc-mul, mul_assoc, div-eq_of_lt-le, div-add-mod', mod-lt, one-le-pow, lt_of_mul-lt-mul_right}
 use native.Mathlib.Numerals.{add-one}
 use native.Mathlib.Omega.{arith}
 use mathlib.Core.Path.{◌≡◌, refl, sym, ap, ap₂, subst, ◌∙◌}
 use mathlib.Core.List.{[], ◌∷◌, ◌++◌, append_assoc, append-nil}
-use lib.ListN.{length, set}
+use lib.ListN.{length, set, get_or}
 use lib.Seq.{sets}
 use Rattle.semantics.specs.Bytes.{Bytes, shown_in, shown}
 use Rattle.text.specs.Text.{Behind, tens}
@@ -94,3 +94,18 @@ pub tens-end : (out : Bytes) (at i m : ℕ) → i ≤ 0 → set out at (48 + m) 
 unfolding tens
 tens-end out at zero m h = refl
 tens-end out at (suc i) m h = absurd (omega arith)
+
+-- ## The table
+
+-- n powers of ten from 10 ^ k on
+abbrev pub powers : ℕ → ℕ → Bytes
+powers zero k = []
+powers (suc n) k = 10 ^ k ∷ powers n (suc k)
+
+of_powers : (n k i : ℕ) → i < n → get_or (powers n k) i 0 ≡ 10 ^ (k + i)
+of_powers zero k i h = absurd (omega arith)
+of_powers (suc n) k zero h = ap (λ (j : ℕ). 10 ^ j) (sym (add-zero k))
+of_powers (suc n) k (suc i) h = of_powers n (suc k) i (omega arith) ∙ ap (λ (j : ℕ). 10 ^ j) (suc-add k i ∙ sym (add-suc k i))
+
+pub power_at : (i : ℕ) → i < 20 → get_or (powers 20 0) i 0 ≡ 10 ^ i
+power_at i h = of_powers 20 0 i h ∙ ap (λ (j : ℕ). 10 ^ j) (zero-add i)

@@ -6,33 +6,39 @@ ghost use Rattle.text.specs.Text.{Behind};
 
 use crate::put;
 
-// The table of powers of ten: 10 ^ i. A dense `match` is a table in constant memory.
+// How many powers of ten 64 bits hold.
+const POWERS: usize = 20;
+
+// The powers of ten: 10 ^ i at i.
+const POWER: [u64; POWERS] = [
+    1,
+    10,
+    100,
+    1000,
+    10000,
+    100000,
+    1000000,
+    10000000,
+    100000000,
+    1000000000,
+    10000000000,
+    100000000000,
+    1000000000000,
+    10000000000000,
+    100000000000000,
+    1000000000000000,
+    10000000000000000,
+    100000000000000000,
+    1000000000000000000,
+    10000000000000000000,
+];
+
+// A power of ten of the table.
 fn power(i: usize) -> u64
     requires { i < 20 }
     ensures { result ≡ 10 ^ i }
 {
-    match i {
-        0 => 1,
-        1 => 10,
-        2 => 100,
-        3 => 1000,
-        4 => 10000,
-        5 => 100000,
-        6 => 1000000,
-        7 => 10000000,
-        8 => 100000000,
-        9 => 1000000000,
-        10 => 10000000000,
-        11 => 100000000000,
-        12 => 1000000000000,
-        13 => 10000000000000,
-        14 => 100000000000000,
-        15 => 1000000000000000,
-        16 => 10000000000000000,
-        17 => 100000000000000000,
-        18 => 1000000000000000000,
-        _ => 10000000000000000000,
-    }
+    POWER[i]
 }
 
 // How many digits the greatest number of 64 bits has behind its first.
@@ -83,5 +89,6 @@ pub fn append_decimal(out: &mut [u8], fill: usize, n: u64) -> usize
         at = put(out, at, b'0' + d.digit);
         m = d.rest;
     }
-    put(out, at, b'0' + m as u8)
+    let last = digit_of(m, 1);
+    put(out, at, b'0' + last.digit)
 }

@@ -2,6 +2,7 @@
 #![tactic(auto)]
 
 mod decimals;
+mod names;
 
 ghost use Rattle.std.specs.Prelude.{◌≡◌, ◌⊎◌, map, ◌+◌, ◌*◌, ◌≤◌, ◌<◌, ◌^◌, length, get_or, set, replicate, SomeIff};
 ghost use Rattle.std.proofs.lemmas.List.Edits.{sets};
@@ -9,9 +10,10 @@ ghost use Rattle.std.proofs.Math.Seq.{slice};
 ghost use Rattle.semantics.specs.Codes.{comma, line_feed};
 ghost use Rattle.semantics.specs.Bytes.{lex, same, unhex, decimal, digits};
 ghost use Rattle.semantics.specs.Builtins.{lower, folded};
-ghost use Rattle.text.specs.Text.{aside, order_of, is_hex, digit_of, is_found, dec_of, refusal_of, Ends, rotated};
+ghost use Rattle.text.specs.Text.{aside, order_of, is_hex, digit_of, is_found, dec_of, refusal_of, Ends, Starts, rotated};
 
 pub use decimals::append_decimal;
+pub use names::{NAME_DIGITS, check_name};
 use semantics::Refusal;
 use std::cmp::Ordering;
 
@@ -34,25 +36,10 @@ pub fn compare(a: &[u8], b: &[u8]) -> Ordering
     a.cmp(&b)
 }
 
-// The same of two parts of one slice.
-pub fn compare_in(s: &[u8], a: usize, ae: usize, b: usize, be: usize) -> Ordering
-    requires { (a ≤ ae) × (ae ≤ length s.now) × (b ≤ be) × (be ≤ length s.now) }
-    ensures { order_of result ≡ lex (slice a ae s.now) (slice b be s.now) }
-{
-    compare(&s[a..ae], &s[b..be])
-}
-
-pub fn same_in(s: &[u8], a: usize, ae: usize, b: usize, be: usize) -> bool
-    requires { (a ≤ ae) × (ae ≤ length s.now) × (b ≤ be) × (be ≤ length s.now) }
-    ensures { result ≡ same (slice a ae s.now) (slice b be s.now) }
-{
-    same(&s[a..ae], &s[b..be])
-}
-
-// Copies `len` bytes from `from` to `to`, which is not above `from`, or so far that the two are apart. Here `copy_within` is tied to the
-// words that the definitions have for parts and for texts written over a list.
+// Copies `len` bytes from `from` to `to`. Here `copy_within` is tied to the words that the definitions have for parts and for texts
+// written over a list. (Places and a length, here and in the moves below, as `copy_within` takes them.)
 pub fn copy_in(s: &mut [u8], from: usize, to: usize, len: usize)
-    requires { (from + len ≤ length s.old) × (to + len ≤ length s.old) × ((to ≤ from) ⊎ (from + len ≤ to)) }
+    requires { (from + len ≤ length s.old) × (to + len ≤ length s.old) }
     ensures { s.new ≡ sets s.old to (slice from (from + len) s.old) }
 {
     s.copy_within(from..from + len, to);
@@ -110,7 +97,8 @@ pub fn rotate(s: &mut [u8], a: usize, m: usize, e: usize)
     }
 }
 
-// Writes `b` at `fill` if that is inside `out`, and counts it either way.
+// Writes `b` at `fill` if that is inside `out`, and counts it either way. (An output and its fill, here and below, and no struct: the
+// methods of `writer::Writer` are made of these, and with `fill` 0 they write the front of a work area, which has no fill.)
 pub fn put(out: &mut [u8], fill: usize, b: u8) -> usize
     requires { fill + 1 < 2 ^ 64 }
     ensures { (result ≡ fill + 1) × (out.new ≡ set out.old fill b) }
@@ -131,13 +119,6 @@ pub fn append(out: &mut [u8], fill: usize, t: &[u8]) -> usize
         out[fill..fill + fits].copy_from_slice(&t[..fits]);
     }
     fill + t.len()
-}
-
-// Zeros every byte. Here `fill` at 0 is tied to the calls' own word for zeros.
-pub fn clear(s: &mut [u8])
-    ensures { s.new ≡ replicate (length s.old) 0 }
-{
-    s.fill(0);
 }
 
 // A digit, or a to f; `is_ascii_hexdigit` takes A to F too.
@@ -177,6 +158,7 @@ pub fn same_hex_fold(hex: &[u8], name: &[u8]) -> bool
     if hex.len() / 2 != name.len() {
         return false;
     }
+    // (With `all` the check leaves it open that its answer is that of the two texts; of the loop each step is one lemma.)
     for (i, b) in name.iter().enumerate() {
         if hex_byte(hex, i * 2).to_ascii_lowercase() != b.to_ascii_lowercase() {
             return false;
@@ -243,7 +225,8 @@ pub fn decimal(t: &[u8]) -> Result<u64, DecimalError>
     }
 }
 
-// Where the piece at `at` ends: the first `b` from there on, or the end of the slice.
+// Where the piece at `at` ends: the first `b` from there on, or the end of the slice. (A text and a place, here and below: the answer is a
+// place in the same text.)
 // (The kit's `memchr` takes three times as many instructions at fields of two bytes.)
 pub fn seek(s: &[u8], at: usize, b: u8) -> usize
     requires { at ≤ length s.now }
@@ -252,6 +235,19 @@ pub fn seek(s: &[u8], at: usize, b: u8) -> usize
     match s[at..].iter().position(|x| *x == b) {
         Some(i) => at + i,
         None => s.len(),
+    }
+}
+
+// Where the piece starts that holds the byte at `at`, not before `from`: behind the last `b` before that byte. Inlined, since it is a step
+// of searches in other crates.
+#[inline(always)]
+pub fn piece_start(s: &[u8], from: usize, at: usize, b: u8) -> usize
+    requires { (from ≤ at) × (at ≤ length s.now) }
+    ensures { Starts b s.now from at result }
+{
+    match s[from..at].iter().rposition(|x| *x == b) {
+        Some(i) => from + i + 1,
+        None => from,
     }
 }
 

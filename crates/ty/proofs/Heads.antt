@@ -2,7 +2,9 @@
 use mathlib.Core.Path.{◌≡◌, refl, sym, ◌∙◌, ap}
 use mathlib.Core.List.{[], ◌∷◌, ◌++◌}
 use mathlib.Core.Bool.{Bool, true, false, cond}
-use Prim.Native.Nat.{ℕ, suc, ◌+◌, ◌≤◌, ◌<◌}
+use Prim.Native.Nat.{ℕ, zero, suc, ◌*◌, ◌+◌, ◌≤◌, ◌<◌}
+use native.Mathlib.Nat.{add-zero}
+use native.Mathlib.Decide.{dec_lt}
 use native.Mathlib.Omega.{arith}
 use lib.Dec.{ltb}
 use lib.ListN.{length, take, drop, get_or, length-drop, take-append-drop, get_or-eq_default}
@@ -13,12 +15,9 @@ use Rattle.semantics.specs.Ty.{Ty, base, t_list, t_map, t_node, t_relationship, 
 use Rattle.semantics.proofs.Order.{Less, ends, here, next, lex-lt, head-eq, tail-eq}
 use Rattle.ty.specs.Parts.{TypeAt, EndsAt}
 use Rattle.ty.specs.Read.{kind_of}
-use Rattle.ty.specs.Keys.{key_of, byte_before, head_of, Below, name_key, NameBelow}
-use Rattle.ty.specs.declared.keys.Head.{Head}
+use Rattle.ty.specs.Keys.{key_of, byte_before, value, head_of, Below, name_key, NameBelow}
 use Rattle.ty.proofs.Lines.{line-to}
-use Rattle.ty.proofs.Places.{byte_past}
-use Rattle.ty.proofs.Fields.{inside_to, line-opens, type-byte}
-use Rattle.ty.proofs.KindLaws.{two_at}
+use Rattle.ty.proofs.Fields.{type-byte}
 
 -- ## A letter that is a whole type
 
@@ -77,22 +76,6 @@ before-pos s i m k h = go (ltb i m) refl h
     go : (b : Bool) → ltb i m ≡ b → k < cond b (get_or s i 0) 0 → i < m
     go true e g = ltb-true i m e
     go false e g = absurd (omega arith)
-
-comma-second : (s : Bytes) (q : ℕ) (t : Ty) (rest : Bytes) → drop q s ≡ line_to t rest → get_or s (q + 1) 0 ≡ 44
-comma-second s q t rest e = byte_past s q (kind_of t ∷ []) (inside_to t rest) 44 (e ∙ line-opens t rest)
-
-comma-second-at : (s : Bytes) (n m : ℕ) (x : Ty) → TypeAt s n m x → get_or s (n + 1) 0 ≡ 44
-unfolding line
-comma-second-at s n m x a =
-    let k = two_at s n m x a in
-    let z : suc n ≡ n + 1 = omega arith in
-    let c = slice-cons n m s 0 (omega arith) a.inside in
-    let d = slice-cons (suc n) m s 0 (omega arith) a.inside in
-    ap (λ (j : ℕ). get_or s j 0) (sym z) ∙ head-eq (sym d ∙ tail-eq (sym c ∙ a.is ∙ line-opens x []))
-
--- a byte that is one before an end, and no zero, is there
-before_same : (s : Bytes) (i m b : ℕ) → i < m → b ≡ byte_before s i m → b ≡ get_or s i 0
-before_same s i m b h e = e ∙ before-in s i m h
 
 before_small : (s : Bytes) (i m : ℕ) → ((j : ℕ) → get_or s j 0 < 256) → byte_before s i m < 256
 unfolding byte_before
@@ -186,68 +169,54 @@ told-name s q x r low h f e w l k =
 
 -- ## Types
 
-module _ (s : Bytes) (q n : ℕ) (x : Head) (o : q < n) where
-  -- by the letter
-  pub told-letter : ltb (get_or s q 0) x.letter ≡ true → (m : ℕ) → x ≡ head_of s n m → Below s q n m
-  told-letter l m w =
-      let g = ltb-true (get_or s q 0) x.letter l in
-      ahead-below s q n m (λ t rest y e a.
-      let k = two_at s n m y a in
-      let i = a.inside in
-      ahead-here s q n m (omega arith) i (omega arith) (omega (arith, ap (λ (h : Head). h.letter) w, before-in s n m (omega arith))))
+-- the first k of some bytes tell that a comes before b
+record Differs (k : ℕ) (a b : ℕ → ℕ) : Type 0 where
+  place : ℕ
+  few : place < k
+  same : (j : ℕ) → j < place → a j ≡ b j
+  less : a place < b place
 
-  module _ (l : get_or s q 0 ≡ x.letter) (m : ℕ) (w : x ≡ head_of s n m) where
-    -- behind the first two bytes
-    after_two : n + 2 < m → (m ≤ length s → Ahead s (q + 2) (n + 2) m) → Below s q n m
-    after_two g v =
-        ahead-below s q n m (λ t rest y e a.
-        let i = a.inside in
-        ahead-next s q n m (omega arith) i (omega arith) (q + 1) (n + 1) (omega arith) (omega arith) (before_same s n m (get_or s q 0) (omega arith) (l ∙ ap (λ (h : Head). h.letter) w))
-        (ahead-next s (q + 1) (n + 1) m (omega arith) i (omega arith) (q + 2) (n + 2) (omega arith) (omega arith) (comma-second s q t rest e ∙ sym (comma-second-at s n m y a)) (v i)))
+module _ (a b : ℕ → ℕ) (f : (j : ℕ) → a j < 256) (g : (j : ℕ) → b j < 256) where
+  same_on : (k j : ℕ) → value a (suc k) ≡ value b (suc k) → (j < k → a j ≡ b j) → j < suc k → Dec (j < k) → a j ≡ b j
+  same_on k j e c h (yes l) = c l
+  same_on k j e c h (no l) = let p : j ≡ k = omega (arith, h, l) in ap a p ∙ omega (arith, e, f k, g k) ∙ sym (ap b p)
 
-    -- by the third
-    pub told-third : ltb (get_or s (q + 2) 0) x.third ≡ true → Below s q n m
-    told-third z =
-        let g = ltb-true (get_or s (q + 2) 0) x.third z in
-        let h : get_or s (q + 2) 0 < byte_before s (n + 2) m = omega (arith, ap (λ (h : Head). h.third) w) in
-        let k = before-pos s (n + 2) m (get_or s (q + 2) 0) h in
-        after_two k (λ i. ahead-here s (q + 2) (n + 2) m k i (omega arith) (omega (arith, before-in s (n + 2) m k)))
+  value-same : (k : ℕ) → value a k ≡ value b k → (j : ℕ) → j < k → a j ≡ b j
+  value-same zero e j h = absurd (omega arith)
+  value-same (suc k) e j h = same_on k j e (value-same k (omega (arith, e, f k, g k)) j) h (dec_lt j k)
 
-    module _ (z : get_or s (q + 2) 0 ≡ x.third) where
-      behind : (j : ℕ) → n + 3 ≤ j → j < m → (m ≤ length s → Ahead s (q + 3) (n + 3) m) → Below s q n m
-      behind j h k v =
-          after_two (omega arith) (λ i. ahead-next s (q + 2) (n + 2) m (omega arith) i (omega arith) (q + 3) (n + 3) (omega arith) (omega arith)
-          (before_same s (n + 2) m (get_or s (q + 2) 0) (omega arith) (z ∙ ap (λ (h : Head). h.third) w)) (v i))
+  less_on : (k : ℕ) → value a (suc k) < value b (suc k) → (value a k < value b k → Differs k a b) → Dec (value a k < value b k) → Differs (suc k) a b
+  less_on k h c (yes l) = let d = c l in record { place = d.place; few = omega (arith, d.few); same = d.same; less = d.less }
+  less_on k h c (no l) = record { place = k; few = omega arith; same = value-same k (omega (arith, h, l, f k, g k)); less = omega (arith, h, l, f k, g k) }
 
-      -- by the four behind it
-      four-told : Four (get_or s (q + 3) 0) (get_or s (q + 4) 0) (get_or s (q + 5) 0) (get_or s (q + 6) 0) (byte_before s (n + 3) m) (byte_before s (n + 4) m) (byte_before s (n + 5) m) (byte_before s (n + 6) m) → Below s q n m
-      four-told (first h) =
-          let k = before-pos s (n + 3) m (get_or s (q + 3) 0) h in
-          behind (n + 3) (omega arith) k (λ i. ahead-here s (q + 3) (n + 3) m k i (omega arith) (omega (arith, before-in s (n + 3) m k)))
-      four-told (second a h) =
-          let k = before-pos s (n + 4) m (get_or s (q + 4) 0) h in
-          behind (n + 4) (omega arith) k (λ i.
-          ahead-next s (q + 3) (n + 3) m (omega arith) i (omega arith) (q + 4) (n + 4) (omega arith) (omega arith) (before_same s (n + 3) m (get_or s (q + 3) 0) (omega arith) a)
-          (ahead-here s (q + 4) (n + 4) m k i (omega arith) (omega (arith, before-in s (n + 4) m k))))
-      four-told (third a b h) =
-          let k = before-pos s (n + 5) m (get_or s (q + 5) 0) h in
-          behind (n + 5) (omega arith) k (λ i.
-          ahead-next s (q + 3) (n + 3) m (omega arith) i (omega arith) (q + 4) (n + 4) (omega arith) (omega arith) (before_same s (n + 3) m (get_or s (q + 3) 0) (omega arith) a)
-          (ahead-next s (q + 4) (n + 4) m (omega arith) i (omega arith) (q + 5) (n + 5) (omega arith) (omega arith) (before_same s (n + 4) m (get_or s (q + 4) 0) (omega arith) b)
-          (ahead-here s (q + 5) (n + 5) m k i (omega arith) (omega (arith, before-in s (n + 5) m k)))))
-      four-told (fourth a b c h) =
-          let k = before-pos s (n + 6) m (get_or s (q + 6) 0) h in
-          behind (n + 6) (omega arith) k (λ i.
-          ahead-next s (q + 3) (n + 3) m (omega arith) i (omega arith) (q + 4) (n + 4) (omega arith) (omega arith) (before_same s (n + 3) m (get_or s (q + 3) 0) (omega arith) a)
-          (ahead-next s (q + 4) (n + 4) m (omega arith) i (omega arith) (q + 5) (n + 5) (omega arith) (omega arith) (before_same s (n + 4) m (get_or s (q + 4) 0) (omega arith) b)
-          (ahead-next s (q + 5) (n + 5) m (omega arith) i (omega arith) (q + 6) (n + 6) (omega arith) (omega arith) (before_same s (n + 5) m (get_or s (q + 5) 0) (omega arith) c)
-          (ahead-here s (q + 6) (n + 6) m k i (omega arith) (omega (arith, before-in s (n + 6) m k))))))
+  value-less : (k : ℕ) → value a k < value b k → Differs k a b
+  value-less zero h = absurd (omega arith)
+  value-less (suc k) h = less_on k h (value-less k) (dec_lt (value a k) (value b k))
 
-      pub told-key : ((j : ℕ) → get_or s j 0 < 256) → (r : ℕ) → r ≡ key_of (get_or s (q + 3) 0) (get_or s (q + 4) 0) (get_or s (q + 5) 0) (get_or s (q + 6) 0) → ltb r x.key ≡ true → Below s q n m
-      told-key f r e h =
-          let g = ltb-true r x.key h in
-          four-told (four_below _ _ _ _ _ _ _ _ (before_small s (n + 4) m f) (before_small s (n + 5) m f) (before_small s (n + 6) m f) (omega (arith, ap (λ (h : Head). h.key) w)))
+-- by the first bytes that differ
+ahead_at : (s : Bytes) (i q n m : ℕ) → n + i < m → m ≤ length s → q < n → ((j : ℕ) → j < i → get_or s (q + j) 0 ≡ get_or s (n + j) 0) → get_or s (q + i) 0 < get_or s (n + i) 0 → Ahead s q n m
+ahead_at s zero q n m h k o same less =
+    let g : ℕ → ℕ = λ i. get_or s i 0 in
+    ahead-here s q n m (omega arith) k (omega arith) (omega (arith, less, ap g (add-zero q), ap g (add-zero n)))
+ahead_at s (suc i) q n m h k o same less =
+    let g : ℕ → ℕ = λ i. get_or s i 0 in
+    let on : (a j : ℕ) → g (a + suc j) ≡ g (suc a + j) = λ a j. ap g (omega arith) in
+    ahead-next s q n m (omega arith) k (omega arith) (suc q) (suc n) refl refl (sym (ap g (add-zero q)) ∙ same 0 (omega arith) ∙ ap g (add-zero n))
+    (ahead_at s i (suc q) (suc n) m (omega arith) k (omega arith)
+    (λ j l. sym (on q j) ∙ same (suc j) (omega arith) ∙ on n j)
+    (omega (arith, less, on q i, on n i)))
 
-pub head-is : (s : Bytes) (n m l t a b c d k : ℕ) → l ≡ byte_before s n m → t ≡ byte_before s (n + 2) m → a ≡ byte_before s (n + 3) m → b ≡ byte_before s (n + 4) m
-    → c ≡ byte_before s (n + 5) m → d ≡ byte_before s (n + 6) m → k ≡ key_of a b c d → ◌≡◌ {A = Head} (record { letter = l; third = t; key = k }) (head_of s n m)
-head-is s n m l t a b c d k el et ea eb ec ed ek = rw (el, et, ek, ea, eb, ec, ed) refl
+-- eight bytes as one number, the first by itself
+abbrev pub number : ℕ → (ℕ → ℕ) → ℕ
+number a f = (((((((0 + a) * 256 + f 1) * 256 + f 2) * 256 + f 3) * 256 + f 4) * 256 + f 5) * 256 + f 6) * 256 + f 7
+
+pub from_there : (g : ℕ → ℕ) (q r : ℕ) → r ≡ number (g q) (λ j. g (q + j)) → r ≡ value (λ j. g (q + j)) 8
+from_there g q r e = e ∙ ap (λ a. number a (λ j. g (q + j))) (ap g (sym (add-zero q)))
+
+pub told_head : (s : Bytes) (q n : ℕ) → q < n → ((j : ℕ) → get_or s j 0 < 256) → (r x : ℕ) → r ≡ value (λ j. get_or s (q + j) 0) 8 → ltb r x ≡ true → (m : ℕ) → x ≡ head_of s n m → Below s q n m
+told_head s q n o f r x e l m w =
+    let d = value-less (λ j. get_or s (q + j) 0) (λ j. byte_before s (n + j) m) (λ j. f (q + j)) (λ j. before_small s (n + j) m f) 8 (omega (arith, ltb-true r x l, e, w)) in
+    let u = before-pos s (n + d.place) m (get_or s (q + d.place) 0) d.less in
+    ahead-below s q n m (λ t rest y z a. ahead_at s d.place q n m u a.inside o
+    (λ j h. d.same j h ∙ before-in s (n + j) m (omega (arith, h, u)))
+    (omega (arith, d.less, before-in s (n + d.place) m u)))

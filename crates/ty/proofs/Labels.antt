@@ -8,10 +8,11 @@ use native.Mathlib.Omega.{arith}
 use lib.Dec.{eqb, ltb, leb}
 use lib.ListN.{length, drop, length-map}
 use lib.Seq.{slice, length-slice}
-use borrow.Author.Tests.{eqb-true, eqb-false, leb-true, leb-false, ltb-true, ltb-false, eq-eqb, ne_eqb, le-leb, lt-leb, lt-ltb, le-ltb}
-use Rattle.std.specs.Prelude.{Option as StdOption, Some, None}
+use borrow.Author.Tests.{eq-eqb, ne_eqb, le-leb, lt-leb, lt-ltb, le-ltb}
+use Rattle.std.specs.Prelude.{Option as StdOption, Some, None, Ok, Err, is_ok}
+use Rattle.semantics.specs.declared.refusals.Refusal.TheVariants.{BadlyWritten, OutOfRange}
 use Rattle.text.specs.Text.{index_of}
-use Rattle.text.specs.Text.{is_found}
+use Rattle.text.specs.Text.{is_found, named_of}
 use Rattle.semantics.specs.Limits.{name_limit}
 use Rattle.semantics.specs.Bytes.{Bytes, unhex, hex}
 use Rattle.semantics.specs.Ty.{names_to, labels_to, rel_to, name_to, name_of, read_name}
@@ -48,6 +49,11 @@ module _ (f : Bytes) where
   pub name-hex : length f ≤ 510 → length f % 2 ≡ 0 → is_found (read_name f) ≡ is_found (unhex f)
   name-hex l h = name-test (unhex f) refl true (rw (eq-eqb (length f % 2) 0 h, le-leb (length f) (2 * name_limit) l))
 
+two : (o : Option Bytes) (b c : Bool) → is_found o ≡ true → is_ok (cond b (cond c (Ok (tt {0})) (Err OutOfRange)) (Err BadlyWritten)) ≡ is_found (elim (b && c) [ true ↦ o | false ↦ none ])
+two o true true h = sym h
+two o true false h = refl
+two o false c h = refl
+
 module _ (s : Bytes) (at end : ℕ) where
   pub in-none : length s ≤ end → false ≡ name_in s at end
   unfolding name_in
@@ -67,16 +73,13 @@ module _ (s : Bytes) (at end : ℕ) where
       let z = length-slice at end s (omega arith) in
       rw (lt-ltb end (length s) l) (e ∙ sym (name-hex (slice at end s) (rw z m) (rw z h)))
 
-  -- all of it as one chain of tests
-  pub name_tests : end ≤ length s → name_in s at end ≡ (ltb end (length s) && (leb (end - at) 510 && (eqb ((end - at) % 2) 0 && is_found (unhex (slice at end s)))))
-  name_tests l = go (ltb end (length s)) refl (leb (end - at) 510) refl (eqb ((end - at) % 2) 0) refl
+  pub in-checked : end < length s → (r : Bool) → r ≡ is_ok (named_of (unhex (slice at end s))) → r ≡ name_in s at end
+  unfolding name_in name_of named_of
+  in-checked l r e = rw (lt-ltb end (length s) l) (e ∙ found (unhex (slice at end s)))
     where
-      go : (a : Bool) → ltb end (length s) ≡ a → (b : Bool) → leb (end - at) 510 ≡ b → (c : Bool) → eqb ((end - at) % 2) 0 ≡ c
-          → name_in s at end ≡ (a && (b && (c && is_found (unhex (slice at end s)))))
-      go false x b y c z = sym (in-none (ltb-false end (length s) x))
-      go true x false y c z = sym (in-long l (leb-false (end - at) 510 y))
-      go true x true y false z = sym (in-odd l (eqb-false ((end - at) % 2) 0 z))
-      go true x true y true z = sym (in-hex (ltb-true end (length s) x) (leb-true (end - at) 510 y) (eqb-true ((end - at) % 2) 0 z) (is_found (unhex (slice at end s))) refl)
+      found : (o : Option Bytes) → is_ok (named_of o) ≡ is_found (name_of o)
+      found none = refl
+      found (some ds) = two (some ds) (eqb (length ds % 2) 0) (leb (length ds) 510) refl
 
 -- ## Labels
 

@@ -1,5 +1,5 @@
 -- The part of a text from a place on, lent as `&mut s[k..]`: what stands in it, and in the text when it comes back. Assumes nothing.
-use mathlib.Core.Path.{◌≡◌, sym, ◌∙◌, ap}
+use mathlib.Core.Path.{◌≡◌, sym, ◌∙◌, ap, ap₂}
 use mathlib.Core.List.{List, ◌++◌}
 use Prim.Native.Nat.{ℕ, ◌+◌, ◌-◌, ◌≤◌}
 use native.Mathlib.Nat.{add-zero}
@@ -11,6 +11,10 @@ use Rattle.semantics.specs.Ty.{Ty}
 use Rattle.text.proofs.Laws.{part_slice, slice-take, slice-drop, slice-end, slice-right, back}
 use Rattle.ty.specs.Parts.{TypeAt}
 use Rattle.ty.specs.Union.{TypesAt}
+
+-- two parts that were lent
+pub lent_both : (s : Bytes) (a ae b be : ℕ) {A : Type 0} (f : Bytes → Bytes → A) {o : A} → o ≡ f (take (ae - a) (drop a s)) (take (be - b) (drop b s)) → o ≡ f (slice a ae s) (slice b be s)
+lent_both s a ae b be f e = e ∙ ap₂ f (part_slice a ae s) (part_slice b be s)
 
 pub part-whole : (s : Bytes) (k : ℕ) → take (length s - k) (drop k s) ≡ drop k s
 part-whole s k = part_slice k (length s) s ∙ slice-end k (length s) s (omega arith)

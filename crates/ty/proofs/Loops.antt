@@ -285,12 +285,6 @@ module _ (P : Ty → Type 0) (may : May) (enough : ℕ → Bool) (s : Bytes) (at
     pub parts-few : k ≡ 79 → enough b.count ≡ false → TypeRead P s at left None
     parts-few z h = parts-short P may enough true s at left k b.to i.keys i.reads no-keys z (rw i.seen.count h)
 
-    pub end-list : k ≡ 74 → TypeRead P s at left (Some b.to)
-    end-list z = rw (eq-eqb k 74 z) at (parts-read (λ y. absurd (omega arith)))
-
-    pub end-closed : (k ≡ 74 → ⊥) → (k ≡ 79 → enough b.count ≡ true) → TypeRead P s at left (Some (b.to + 2))
-    end-closed z h = rw (ne_eqb k 74 z) at (parts-read h)
-
 -- ## Nesting of a type that is known to be there
 
 -- the form that asks for nothing
@@ -427,10 +421,3 @@ nested-flat s at left e z h d t rest f =
 
 pub nested-none : (s : Bytes) (at left : ℕ) → left ≡ 0 → NestingEnd s at left None
 nested-none s at left z = nesting-told s at left None (no-nesting AnyType s at left z)
-
--- a list ends where its type ends, any other behind `!,`
-pub nested-list : (s : Bytes) (at left k q n : ℕ) → Nested s at left k q n → goes_in k s q n ≡ false → k ≡ 74 → NestingEnd s at left (Some q)
-nested-list s at left k q n i g z = rw (eq-eqb k 74 z) at (nested-end s at left k q n i g)
-
-pub nested-closed : (s : Bytes) (at left k q n : ℕ) → Nested s at left k q n → goes_in k s q n ≡ false → (k ≡ 74 → ⊥) → NestingEnd s at left (Some (q + 2))
-nested-closed s at left k q n i g z = rw (ne_eqb k 74 z) at (nested-end s at left k q n i g)

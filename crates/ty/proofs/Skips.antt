@@ -19,6 +19,28 @@ use Rattle.ty.specs.Skip.{opened_by, goes_on, next_field, Skip, done, word, rel,
 use Rattle.ty.proofs.Lines.{length_to, nesting-line, nesting-pos, name-to, comma-at, hex-bytes, line-skip}
 use Rattle.ty.proofs.Places.{past, byte_past, byte_at, room, room-past}
 
+-- on the way to the comma of the field at q
+module _ (s : Bytes) (q i : ℕ) (h : q + index_of 44 (drop q s) < length s) (a : q ≤ i) (b : i ≤ q + index_of 44 (drop q s)) where
+  pub comma-on : (get_or s i 0 ≡ 44 → ⊥) → i < q + index_of 44 (drop q s)
+  comma-on n = go (ltb i (q + index_of 44 (drop q s))) refl
+    where
+      go : (t : Bool) → ltb i (q + index_of 44 (drop q s)) ≡ t → i < q + index_of 44 (drop q s)
+      go true e = ltb-true i (q + index_of 44 (drop q s)) e
+      go false e =
+          let k = ltb-false i (q + index_of 44 (drop q s)) e in
+          let z : i ≡ q + index_of 44 (drop q s) = omega arith in
+          absurd (n (ap (λ (j : ℕ). get_or s j 0) z ∙ sym (get_or-drop q s (index_of 44 (drop q s)) 0) ∙ index-mark 44 (drop q s) (omega (arith, length-drop q s))))
+
+  pub comma-here : get_or s i 0 ≡ 44 → i ≡ q + index_of 44 (drop q s)
+  comma-here n = go (ltb i (q + index_of 44 (drop q s))) refl
+    where
+      go : (t : Bool) → ltb i (q + index_of 44 (drop q s)) ≡ t → i ≡ q + index_of 44 (drop q s)
+      go true e =
+          let k = ltb-true i (q + index_of 44 (drop q s)) e in
+          let z : q + (i - q) ≡ i = omega arith in
+          absurd (index-first 44 (drop q s) (i - q) (omega arith) (get_or-drop q s (i - q) 0 ∙ ap (λ (j : ℕ). get_or s j 0) z ∙ n))
+      go false e = let k = ltb-false i (q + index_of 44 (drop q s)) e in omega arith
+
 -- behind a name
 pub name-past : (s : Bytes) (p : ℕ) (n x : Bytes) → drop p s ≡ name_to n x → (p + index_of 44 (drop p s) < length s) × (drop (next_field s p) s ≡ x)
 name-past s p n x e =

@@ -1,10 +1,9 @@
 -- The order that the first bytes of types and of names tell: what the contracts of keys.rt cite.
 use Prim.Native.Nat.{Ordering}
-use Rattle.std.specs.Prelude.{ℕ, ◌+◌, ◌*◌, ◌≡◌, cond, ltb, length, take, drop, get_or}
+use Rattle.std.specs.Prelude.{ℕ, zero, suc, ◌+◌, ◌*◌, ◌≡◌, cond, ltb, length, take, drop, get_or}
 use Rattle.semantics.specs.Bytes.{Bytes, lex}
 use Rattle.semantics.specs.Ty.{Ty, line_to, line}
 use Rattle.ty.specs.Parts.{TypeAt}
-use Rattle.ty.specs.declared.keys.Head.{Head}
 
 -- four bytes as one number
 unfoldable pub key_of : ℕ → ℕ → ℕ → ℕ → ℕ
@@ -14,14 +13,14 @@ key_of a b c d = a * 16777216 + b * 65536 + c * 256 + d
 unfoldable pub byte_before : Bytes → ℕ → ℕ → ℕ
 byte_before s i e = cond (ltb i e) (get_or s i 0) 0
 
--- what the type at [n, m) begins with
-abbrev pub head_of : Bytes → ℕ → ℕ → Head
-head_of s n m =
-    record {
-      letter = byte_before s n m;
-      third = byte_before s (n + 2) m;
-      key = key_of (byte_before s (n + 3) m) (byte_before s (n + 4) m) (byte_before s (n + 5) m) (byte_before s (n + 6) m);
-    }
+-- the first k of some bytes as one number
+abbrev pub value : (ℕ → ℕ) → ℕ → ℕ
+value f zero = 0
+value f (suc k) = value f k * 256 + f k
+
+-- the first eight bytes of the type at [n, m), zeros for those that it does not have
+abbrev pub head_of : Bytes → ℕ → ℕ → ℕ
+head_of s n m = value (λ j. byte_before s (n + j) m) 8
 
 -- the type at q comes before the type at [n, m), whichever they are
 abbrev pub Below : Bytes → ℕ → ℕ → ℕ → Type 0

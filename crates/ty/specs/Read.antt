@@ -103,6 +103,10 @@ label_allowed b s prev q n = name_in s q (q + index_of comma (drop q s)) && cond
 
 -- ## Nesting
 
+-- where a type of kind k ends whose parts end at q
+abbrev pub parts_end : ℕ → ℕ → ℕ
+parts_end k q = cond (eqb k list_letter) q (q + 2)
+
 -- where the type t that stands at a ends, if its nesting is at most l
 unfoldable pub end_within : ℕ → ℕ → Ty → Option ℕ
 end_within l a t = cond (leb (nesting t) l) (Some (a + length (line t))) None

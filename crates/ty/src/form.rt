@@ -1,4 +1,5 @@
-// Forms of type lines: what a reader asks of the parts of a type besides how they are written.
+// Forms of type lines: what a reader asks of the parts of a type besides how they are written. (A text and places in it, and no slices: see
+// `nesting_end` in end.rt.)
 ghost use Rattle.std.specs.Prelude.{◌≡◌, List, Bool, true, ℕ, ◌≤◌, ◌<◌, length};
 ghost use Rattle.semantics.specs.Codes.{map_letter, union_letter};
 ghost use Rattle.semantics.specs.Bytes.{Bytes};

@@ -1,8 +1,10 @@
 // The order of types and of names by their first bytes, several at once: most of what is passed on the way to a place is told by them.
-ghost use Rattle.std.specs.Prelude.{◌≡◌, true, ℕ, ◌+◌, ◌≤◌, ◌<◌, length};
-ghost use Rattle.ty.specs.Keys.{key_of, byte_before, head_of, Below, name_key, NameBelow};
+// (Types by eight bytes at once: an old union of 584 members takes 1,315,346 instructions, told by letter, third byte and four more 1,512,850.
+// Each size has its own functions, since no trait has `from_be_bytes`.)
+ghost use Rattle.std.specs.Prelude.{◌≡◌, true, ℕ, ◌+◌, ◌≤◌, ◌<◌, length, get_or};
+ghost use Rattle.ty.specs.Keys.{key_of, byte_before, value, head_of, Below, name_key, NameBelow};
 
-// Four bytes as one number, so that they are compared at once.
+// Four bytes as one number, so that they are compared at once. (Of names four, where types have eight: an entry may have five bytes.)
 #[tactic(auto, unfolding(crate::specs::Keys::key_of))]
 fn key_of(a: u8, b: u8, c: u8, d: u8) -> u32
     ensures { result ≡ key_of a b c d }
@@ -20,49 +22,51 @@ fn byte_before(s: &[u8], i: usize, end: usize) -> u8
 }
 
 // Bytes that the beginning of a type is told by.
-const HEAD_BYTES: usize = 7;
+const HEAD_BYTES: usize = 8;
 
-// What a type begins with: its letter, its third byte (the second is a comma), and the next four as one number.
-#[derive(Clone, Copy)]
-pub struct Head {
-    pub letter: u8,
-    pub third: u8,
-    pub key: u32,
+// Eight bytes as one number.
+fn number_of(bytes: [u8; HEAD_BYTES]) -> u64
+    ensures { result ≡ value (λ j. get_or bytes j 0) 8 }
+{
+    u64::from_be_bytes(bytes)
 }
 
-// What the type [n..m) begins with, zeros for what it does not have.
-pub fn head_of(s: &[u8], n: usize, m: usize) -> Head
+// The first eight bytes of the type [n..m) as one number. What it does not have counts as zeros, below every byte of a line, as a text
+// comes after its own beginnings.
+pub fn head_of(s: &[u8], n: usize, m: usize) -> u64
     requires { (n + 2 ≤ m) × (m ≤ length s.now) }
     ensures { result ≡ head_of s.now n m }
 {
-    let a = byte_before(s, n + 3, m);
-    let b = byte_before(s, n + 4, m);
-    let c = byte_before(s, n + 5, m);
-    let d = byte_before(s, n + 6, m);
-    Head {
-        letter: byte_before(s, n, m),
-        third: byte_before(s, n + 2, m),
-        key: key_of(a, b, c, d),
-    }
+    let a = byte_before(s, n, m);
+    let b = byte_before(s, n + 1, m);
+    let c = byte_before(s, n + 2, m);
+    let d = byte_before(s, n + 3, m);
+    let e = byte_before(s, n + 4, m);
+    let f = byte_before(s, n + 5, m);
+    let g = byte_before(s, n + 6, m);
+    let h = byte_before(s, n + 7, m);
+    number_of([a, b, c, d, e, f, g, h])
 }
 
-// Whether its first seven bytes alone tell that the type at q comes before the type at n, which begins with x.
-pub fn is_below(s: &[u8], q: usize, n: usize, x: Head) -> bool
+// Whether its first eight bytes alone tell that the type at q comes before the type at n, which begins with x.
+pub fn is_below(s: &[u8], q: usize, n: usize, x: u64) -> bool
     requires { (q < n) × (n + 1 < length s.now) }
     ensures { result ≡ true → (m : ℕ) → x ≡ head_of s.now n m → Below s.now q n m }
 {
-    let letter = s[q];
-    if letter != x.letter {
-        return letter < x.letter;
-    }
-    let third = s[q + 2];
-    if third != x.third {
-        return third < x.third;
-    }
     if s.len() - n < HEAD_BYTES {
         return false;
     }
-    key_of(s[q + 3], s[q + 4], s[q + 5], s[q + 6]) < x.key
+    let first = number_of([
+        s[q],
+        s[q + 1],
+        s[q + 2],
+        s[q + 3],
+        s[q + 4],
+        s[q + 5],
+        s[q + 6],
+        s[q + 7],
+    ]);
+    first < x
 }
 
 // The first four bytes of a name as one number, zeros for what it does not have.

@@ -16,6 +16,7 @@ pub fn merge_labels(s: &mut [u8], a: usize, b: usize, to: usize) -> Option<usize
         q: b + 4,
         n: Some(4),
     };
+    // (The slice is written in each turn: no iterator can hold it.)
     while let Some(side) = next_name(s, m.p, m.q) {
         let k = name_len(s, taken(m, side));
         m = take(s, m, side, k, to);

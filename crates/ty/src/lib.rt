@@ -17,7 +17,9 @@ ghost use Rattle.std.specs.Prelude.{◌≡◌};
 ghost use Rattle.semantics.specs.Ty.{Ty, t_list, line};
 ghost use Rattle.ty.specs.Read.{ListLine};
 
-pub use end::{Content, fits, is_field, letter, nesting_end, part_follows, type_end, value_at};
+pub use end::{
+    Content, fits, is_field, letter, nesting_end, part_follows, parts_end, type_end, value_at,
+};
 pub use form::{Before, Form};
 pub use label_sets::merge_labels;
 pub use letters::{

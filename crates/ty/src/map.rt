@@ -47,7 +47,7 @@ pub fn entry_spot(part: &[u8], len: usize, name: &[u8]) -> Spot
     Spot::New(last)
 }
 
-// The entry at p: room for the name, the name, and the value [len..end) behind it.
+// The entry at p: room for the name, the name, and the value [len..end) behind it. (Lengths beside the part: see `add_members`.)
 pub fn insert_entry(part: &mut [u8], len: usize, end: usize, p: usize, name: &[u8]) -> Option<usize>
     requires { (p ≤ len) × (len ≤ end) × (end ≤ length part.old) × (type_limit ≤ length part.old) }
     ensures { Fronted part.old part.new (inserted_at part.old len end p name.now) result }

@@ -1,4 +1,5 @@
 // Merging of two lists of names, each ended by `!`: label sets, and the entries of maps. Both stand below `to`; what is kept of them goes to `to`.
+// (The operands stand in the same slice as what is kept, so `s` and `to` are no struct: it would lend the slice for as long as it lives.)
 ghost use Rattle.std.specs.Prelude.{◌≡◌, ◌+◌, ◌≤◌, ◌<◌, ◌^◌, length, IfSome};
 ghost use Rattle.semantics.specs.Limits.{type_limit};
 ghost use Rattle.ty.specs.Merging.{SomeHead, NextIs, SomeName, NameLong, kept_of, kept_text, taken_at, moved, Few, Taking, closed_of, closed_text};
@@ -38,7 +39,7 @@ pub fn next_name(s: &[u8], p: usize, q: usize) -> Option<Side>
     }
     let pe = text::field_end(s, p);
     let qe = text::field_end(s, q);
-    match text::compare_in(s, p, pe, q, qe) {
+    match text::compare(&s[p..pe], &s[q..qe]) {
         Ordering::Less => Some(Side::First),
         Ordering::Equal => Some(Side::Both),
         Ordering::Greater => Some(Side::Second),

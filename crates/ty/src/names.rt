@@ -1,4 +1,5 @@
 // Type names (type_name in infer.rs).
+ghost use Rattle.std.specs.Prelude.{◌≤◌, length};
 ghost use Rattle.ty.specs.Kind.{NamesKind};
 
 use crate::letters::{
@@ -6,9 +7,10 @@ use crate::letters::{
     UNION,
 };
 
-// The name of the types of kind k.
+// The name of the types of kind k; of any byte it is short.
 pub fn type_name(k: u8) -> &'static [u8]
-    ensures { NamesKind k result.now }
+    ensures names { NamesKind k result.now }
+    ensures short { length result.now ≤ 12 }
 {
     match k {
         ANY => b"Any",

@@ -1,36 +1,39 @@
-// The reader of type lines, field by field, for each form.
-ghost use Rattle.std.specs.Prelude.{◌≡◌, true, ◌≤◌, ◌<◌, length};
+// The reader of type lines, field by field, for each form. (A text and places in it, and no slices: see `nesting_end` in end.rt.)
+ghost use Rattle.std.specs.Prelude.{◌≡◌, true, ◌+◌, ◌≤◌, ◌<◌, length, drop};
+ghost use Rattle.semantics.specs.Codes.{comma};
+ghost use Rattle.text.specs.Text.{index_of};
 ghost use Rattle.std.proofs.Math.Seq.{slice};
 ghost use Rattle.ty.specs.Read.{in_order, name_in, label_allowed, LabelsRead, NodeRead, RelRead, TypeRead};
 ghost use Rattle.ty.specs.Form.{FormLaws, SomeSeen, IsAllowed};
 
-use crate::end::{Content, is_field, letter, next_field, part_follows, value_at};
+use crate::end::{Content, is_field, letter, next_field, part_follows, parts_end, value_at};
 use crate::form::{Before, Form};
-use crate::letters::{CLOSE, LIST, MAP, OPEN, UNION};
+use crate::letters::{CLOSE, MAP, OPEN, UNION};
 use std::cmp::Ordering;
 
-// Two digits for each byte of a name.
-const NAME_DIGITS: usize = 2 * semantics::NAME_LIMIT;
-
-// Whether [at..end) is a name: pairs of lowercase hexadecimal digits, at most 255 bytes, and a comma behind it.
-#[tactic(auto, using(crate::proofs::Labels::name_tests))]
+// Whether [at..end) is a name, and a comma behind it.
 pub fn is_name(s: &[u8], at: usize, end: usize) -> bool
     requires { (at ≤ end) × (end ≤ length s.now) }
     ensures { result ≡ name_in s.now at end }
 {
-    end < s.len()
-        && end - at <= NAME_DIGITS
-        && (end - at).is_multiple_of(2)
-        && text::all_hex(&s[at..end])
+    end < s.len() && text::check_name(&s[at..end]).is_ok()
 }
 
-// Whether the part [b..be) may follow n parts, the last of which is [a..ae).
+// Whether the part b may follow n parts, the last of which is a.
 #[tactic(auto, unfolding(crate::specs::Read::in_order))]
-pub fn in_order(s: &[u8], a: usize, ae: usize, b: usize, be: usize, n: usize) -> bool
-    requires { (a ≤ ae) × (ae ≤ length s.now) × (b ≤ be) × (be ≤ length s.now) }
-    ensures { result ≡ in_order n (slice a ae s.now) (slice b be s.now) }
+pub fn in_order(a: &[u8], b: &[u8], n: usize) -> bool
+    ensures { result ≡ in_order n a.now b.now }
 {
-    n == 0 || text::compare_in(s, a, ae, b, be) == Ordering::Less
+    n == 0 || text::compare(a, b) == Ordering::Less
+}
+
+// Whether the name [q..e) may follow n names, the last at prev, where names ascend.
+fn ascends(s: &[u8], prev: usize, q: usize, e: usize, n: usize) -> bool
+    requires { (prev ≤ length s.now) × (q ≤ e) × (e ≤ length s.now) }
+    ensures { result ≡ in_order n (slice prev (prev + index_of comma (drop prev s.now)) s.now) (slice q e s.now) }
+{
+    let end = text::field_end(s, prev);
+    in_order(&s[prev..end], &s[q..e], n)
 }
 
 // Whether the name at q, after n names, the last at prev, may stand there: if ORDERED, behind that one only.
@@ -40,7 +43,7 @@ fn name_allowed<const ORDERED: bool>(s: &[u8], prev: usize, q: usize, n: usize) 
     ensures { result ≡ label_allowed ORDERED s.now prev q n }
 {
     let e = text::field_end(s, q);
-    is_name(s, q, e) && (!ORDERED || in_order(s, prev, text::field_end(s, prev), q, e, n))
+    is_name(s, q, e) && (!ORDERED || ascends(s, prev, q, e, n))
 }
 
 // Labels from `at` to `!,`, if ORDERED in ascending order.
@@ -50,6 +53,7 @@ fn read_labels<const ORDERED: bool>(s: &[u8], at: usize) -> Option<usize>
 {
     let mut prev = at;
     let mut q = at;
+    // A name's end depends on the text, so no range gives the places. Only whether one stands before is asked of the count.
     let mut n = 0;
     while !is_field(s, q, CLOSE) {
         if !name_allowed::<ORDERED>(s, prev, q, n) {
@@ -123,6 +127,7 @@ pub fn read_type<F: Form>(s: &[u8], at: usize, left: usize) -> Option<usize>
         Content::RelationshipName => return read_relationship(s, at + 2),
         Content::Types => {}
     }
+    // As in `nesting_end`, no iterator counts the parts.
     let mut before = Before {
         from: at + 2,
         last: at + 2,
@@ -142,9 +147,8 @@ pub fn read_type<F: Form>(s: &[u8], at: usize, left: usize) -> Option<usize>
             count: before.count + 1,
         };
     }
-    match k {
-        LIST => Some(before.to),
-        UNION if !F::is_enough(before.count) => None,
-        _ => Some(before.to + 2),
+    if k == UNION && !F::is_enough(before.count) {
+        return None;
     }
+    Some(parts_end(k, before.to))
 }

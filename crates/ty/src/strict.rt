@@ -26,11 +26,12 @@ impl Form for Strict {
 
     fn name_may_follow(s: &[u8], before: Before, e: usize) -> bool {
         let end = text::field_end(s, before.last);
-        in_order(s, before.last, end, before.to, e, before.count)
+        in_order(&s[before.last..end], &s[before.to..e], before.count)
     }
 
     fn member_may_follow(s: &[u8], before: Before, e: usize) -> bool {
-        s[before.to] != UNION && in_order(s, before.last, before.to, before.to, e, before.count)
+        s[before.to] != UNION
+            && in_order(&s[before.last..before.to], &s[before.to..e], before.count)
     }
 
     fn is_enough(n: usize) -> bool {

@@ -22,13 +22,14 @@ pub fn place(part: &[u8], n: usize, m: usize) -> Option<usize>
 {
     let x = head_of(part, n, m);
     let mut q = 0;
-    // A member ends where its line does: there is no index to count. (One walk with `entry_spot` would take its ends and its order as closures.)
+    // A member ends where its line does: there is no index to count. (It shares the walk alone with `entry_spot`: where a part ends, what is
+    // compared and what is answered differ, so that one walk would be lent three functions and be no shorter.)
     while q < n {
         let e = type_end(part, q);
         if is_below(part, q, n, x) {
             q = e;
         } else {
-            match text::compare_in(part, q, e, n, m) {
+            match text::compare(&part[q..e], &part[n..m]) {
                 Ordering::Less => {
                     q = e;
                 }
@@ -86,12 +87,14 @@ fn union_size(part: &[u8], len: usize) -> Option<usize>
     Some(len)
 }
 
-// Inserts the types [len..end) into the members [0..len).
+// Inserts the types [len..end) into the members [0..len). (Two lengths beside the part, here and in map.rt, and no struct: the part is lent
+// from a work area anew for each call, and what comes back is one length.)
 pub fn add_members(part: &mut [u8], len: usize, end: usize) -> Option<usize>
     requires { Adding part.old len end }
     ensures { AddedAll part.old part.new len end result }
 {
     let mut rest = Rest { from: len, to: end };
+    // Both ends move: the types that are there already leave the end nearer.
     while rest.from < rest.to {
         rest = add_next(part, rest);
     }

@@ -9,6 +9,7 @@ ghost use Rattle.report.specs.Report.{NumbersLine};
 
 use semantics::Refused;
 use std::io;
+use writer::Writer;
 
 // One byte more than a sheet may have: a longer input fills it, and is refused.
 const SHEET_ROOM: usize = 65536;
@@ -21,8 +22,9 @@ const REPORT_ROOM: usize = 65536;
 fn say_refused(out: &mut [u8], refused: Refused) -> usize
     ensures { NumbersLine (text "refused,") (number_of refused.why) refused.place out.old out.new 0 result }
 {
-    let number = u64::from(u32::from(refused.why));
-    report::refused_line(out, 0, number, refused.place)
+    let mut writer = Writer::new(out, 0);
+    report::refused_line(&mut writer, refused);
+    writer.fill
 }
 
 // What is printed of a sheet, at the front of the output: its length.

@@ -1,4 +1,4 @@
--- What the program prints of a call on a store (RULES 10.4, ask 12; docs/DECISIONS.md, 66).
+-- What the program prints of a call on a store (RULES 10.4; docs/DECISIONS.md, 66).
 use Rattle.std.specs.Prelude.{◌≡◌, List, [], ◌∷◌, ◌++◌, true, false, ℕ, ◌+◌, ◌*◌, ◌≤◌, eqb, length, Option, Some, None}
 use Rattle.std.proofs.Math.Option.{none, some}
 use Rattle.semantics.specs.Codes.{line_feed, comma}
@@ -10,7 +10,6 @@ use Rattle.report.specs.Report.{Appends, numbers_text, end_text}
 use Rattle.stores.specs.Catalogue.{store_head, Live, Catalogue, Ask, entering, releasing, looking_up, Told, read_store, store_call}
 use Rattle.catalogue.specs.Places.{Run}
 use Rattle.typestore.specs.declared.answer.Said.{Said}
-use Rattle.typestore.specs.declared.list.Listed.{Listed}
 
 -- a live type: its number, its uses and its line
 abbrev pub line_text : ℕ → ℕ → Bytes → Bytes
@@ -56,10 +55,9 @@ abbrev pub list_text : Catalogue → Bytes
 list_text c = lives_text c.live ++ end_text (length c.live) c.last
 
 -- the lines of the live types up to `end`
-pub record Lines (s : Bytes) (end : ℕ) (out out' : Bytes) (r : Listed) : Type 0 where
-  pub text : (ls : List Live) → Run s store_head ls end → Appends (lives_text ls) out out' 0 r.fill
-  pub count : (ls : List Live) → Run s store_head ls end → r.types ≡ length ls
-  pub short : r.fill + 48 ≤ 6 * end
+pub record Lines (s : Bytes) (end : ℕ) (out out' : Bytes) (fill : ℕ) : Type 0 where
+  pub text : (ls : List Live) → Run s store_head ls end → Appends (lives_text ls) out out' 0 fill
+  pub short : fill + 48 ≤ 6 * end
 
 pub record Lists (s out out' : Bytes) (r : Said) : Type 0 where
   pub no : read_store s ≡ none → (said_number r.refusal ≡ 2) × Appends (numbers_text (text "refused,") 2 0) out out' 0 r.length

@@ -1,7 +1,6 @@
 // The list of the live types of a store.
-ghost use Rattle.std.specs.Prelude.{◌+◌, ◌≤◌, ◌<◌, ◌^◌, length};
+ghost use Rattle.std.specs.Prelude.{◌≡◌, ◌+◌, ◌≤◌, ◌<◌, ◌^◌, length};
 ghost use Rattle.stores.specs.Catalogue.{store_head, store_size};
-ghost use Rattle.catalogue.specs.Places.{Laid};
 ghost use Rattle.catalogue.specs.Stands.{Opened};
 ghost use Rattle.report.specs.Report.{Appends};
 ghost use Rattle.typestore.specs.Answers.{line_text, Lines, Lists};
@@ -11,20 +10,13 @@ use catalogue::{Checked, Entries, STORE_HEAD};
 use text::COMMA;
 use writer::Writer;
 
-// How far the output is filled, and how many types there are.
-#[derive(Clone, Copy)]
-pub struct Listed {
-    pub fill: usize,
-    pub types: u64,
-}
-
 // A live type: at most 48 bytes and its line.
-pub fn live_line(out: &mut [u8], fill: usize, number: u64, uses: u64, line: &[u8]) -> usize
-    requires { fill + length line.now + 48 < 2 ^ 64 }
-    ensures { Appends (line_text number uses line.now) out.old out.new fill result
-        × (result ≤ fill + length line.now + 48) }
+pub fn live_line(writer: &mut Writer<'_>, number: u64, uses: u64, line: &[u8])
+    requires { writer.old.fill + length line.now + 48 < 2 ^ 64 }
+    ensures keeps { writer.new.out.ghost_name ≡ writer.old.out.ghost_name }
+    ensures line { Appends (line_text number uses line.now) writer.old.out.now writer.new.out.now writer.old.fill writer.new.fill }
+    ensures short { writer.new.fill ≤ writer.old.fill + length line.now + 48 }
 {
-    let mut writer = Writer::new(out, fill);
     writer.write(b"live,");
     writer.decimal(number);
     writer.put(COMMA);
@@ -32,33 +24,38 @@ pub fn live_line(out: &mut [u8], fill: usize, number: u64, uses: u64, line: &[u8
     writer.put(COMMA);
     writer.write(line);
     writer.end_line();
-    writer.fill
 }
 
-fn lines(store: &[u8], end: usize, out: &mut [u8]) -> Listed
-    requires { Laid store.now store_head end × (end ≤ store_size) }
-    ensures { Lines store.now end out.old out.new result }
+// The lines of all live types, at the front of the output: how many bytes they are.
+fn lines(live: Entries, out: &mut [u8]) -> usize
+    requires { (live.at ≡ store_head) × (live.end ≤ store_size) }
+    ensures { Lines live.entry.store.now live.entry.end out.old out.new result }
 {
-    let mut fill = 0;
-    let mut types = 0;
-    for entry in Entries::new(store, STORE_HEAD, end) {
-        let number = u64::from(entry.number);
-        let uses = u64::from(entry.uses);
-        fill = live_line(out, fill, number, uses, entry.text);
-        types += 1;
+    let mut writer = Writer::new(out, 0);
+    for entry in live {
+        live_line(
+            &mut writer,
+            u64::from(entry.number),
+            u64::from(entry.uses),
+            entry.text,
+        );
     }
-    Listed { fill, types }
+    writer.fill
 }
 
 fn list_all(store: &[u8], checked: Checked, out: &mut [u8]) -> Said
     requires { Opened store.now checked.last checked.end }
     ensures { Lists store.now out.old out.new result }
 {
-    let listed = lines(store, checked.end, out);
-    let last = u64::from(checked.last);
+    let live = Entries::new(store, STORE_HEAD, checked.end);
+    let fill = lines(live, out);
+    // (A cast, since there is no `From` of a `usize` for `u64`.)
+    let types = live.count() as u64;
+    let mut writer = Writer::new(out, fill);
+    report::numbers_line(&mut writer, b"end,", types, u64::from(checked.last));
     Said {
         refusal: None,
-        length: report::numbers_line(out, listed.fill, b"end,", listed.types, last),
+        length: writer.fill,
     }
 }
 

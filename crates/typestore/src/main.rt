@@ -114,8 +114,11 @@ fn answer_to(call: Call, store: &mut [u8], out: &mut [u8]) -> Said
 }
 
 // How many bytes of a file were read; one that is missing is the empty store.
-fn read_store<'a, R: Files>(rt: &R, path: &'a str, store: &mut [u8]) -> Result<usize, Failure<'a>>
-    requires { 65536 ≤ length store.old }
+fn read_store<'a, R: Files>(
+    rt: &R,
+    path: &'a str,
+    store: &mut [u8; STORE_ROOM],
+) -> Result<usize, Failure<'a>>
     ensures { IfOk result (λ n. n ≤ length store.new) }
 {
     let mut file = match File::open(rt, path) {
@@ -153,16 +156,15 @@ fn replace<'a, R: Files>(
     fs::rename(rt, beside, path).map_err(|reason| Failure { what: path, reason })
 }
 
-// The call, and whether the new file has become the old one: not where the call changes nothing.
+// The call, and whether the new file has become the old one: not where the call changes nothing. (Store and output are two arrays that `main`
+// lends: a struct of the two would be opened again for each call, which reads the one while it writes the other.)
 fn settle<'a, R: Files + Print + Eprint>(
     rt: &R,
     file: R::File,
     request: Request<'a>,
-    store: &mut [u8],
-    out: &mut [u8],
-) -> Result<bool, Failure<'a>>
-    requires { (length store.old ≡ 65537) × (393216 ≤ length out.old) }
-{
+    store: &mut [u8; STORE_ROOM],
+    out: &mut [u8; OUT_ROOM],
+) -> Result<bool, Failure<'a>> {
     let n = read_store(rt, request.path, store)?;
     let said = answer_to(request.call, &mut store[..n], out);
     let is_new = said.refusal.is_none();
@@ -177,11 +179,9 @@ fn settle<'a, R: Files + Print + Eprint>(
 fn change<'a, R: Files + Print + Eprint>(
     rt: &R,
     request: Request<'a>,
-    store: &mut [u8],
-    out: &mut [u8],
-) -> Result<(), Failure<'a>>
-    requires { (length store.old ≡ 65537) × (393216 ≤ length out.old) }
-{
+    store: &mut [u8; STORE_ROOM],
+    out: &mut [u8; OUT_ROOM],
+) -> Result<(), Failure<'a>> {
     let beside = request.beside;
     let file = OpenOptions::new()
         .write(true)
@@ -202,11 +202,9 @@ fn change<'a, R: Files + Print + Eprint>(
 fn look<'a, R: Files + Print + Eprint>(
     rt: &R,
     request: Request<'a>,
-    store: &mut [u8],
-    out: &mut [u8],
-) -> Result<(), Failure<'a>>
-    requires { (length store.old ≡ 65537) × (393216 ≤ length out.old) }
-{
+    store: &mut [u8; STORE_ROOM],
+    out: &mut [u8; OUT_ROOM],
+) -> Result<(), Failure<'a>> {
     let n = read_store(rt, request.path, store)?;
     let said = answer_to(request.call, &mut store[..n], out);
     say(rt, request.path, said, out);
@@ -216,11 +214,9 @@ fn look<'a, R: Files + Print + Eprint>(
 fn run<'a, R: Files + Print + Eprint>(
     rt: &R,
     request: Request<'a>,
-    store: &mut [u8],
-    out: &mut [u8],
-) -> Result<(), Failure<'a>>
-    requires { (length store.old ≡ 65537) × (393216 ≤ length out.old) }
-{
+    store: &mut [u8; STORE_ROOM],
+    out: &mut [u8; OUT_ROOM],
+) -> Result<(), Failure<'a>> {
     match request.call {
         Call::Enter(_) | Call::Release(_) => change(rt, request, store, out),
         Call::Show(_) | Call::List => look(rt, request, store, out),
@@ -235,7 +231,7 @@ fn no_name<'a>() -> Failure<'a> {
     }
 }
 
-// The arrays by their types: a proof then asks their lengths of no list of so many elements.
+// The call on the file of this name.
 fn run_in<R: Files + Print + Eprint>(
     rt: &R,
     path: &[u8],

@@ -24,7 +24,7 @@ use Rattle.tops.proofs.TopsLaws.{laid_out, stand-start}
 use Rattle.infer.specs.Steps.{EnvAs}
 use Rattle.infer.specs.Statement.{StatementAt, StatementAsk, MadeAs, Reported}
 use Rattle.infer.specs.declared.step.Env.{Env as Binds}
-use Rattle.infer.specs.declared.walk.Cur.{Cur}
+use Rattle.hir.specs.declared.valid.Next.{Next}
 use Rattle.infer.specs.declared.walk.TooLarge.{TooLarge}
 use Rattle.std.specs.Prelude.{Result, Ok, Err, is_err}
 use Rattle.semantics.specs.Refusals.{number_of}
@@ -95,7 +95,7 @@ lines-on (a_line a x) = omega (arith, a.on, lines-on x)
 abbrev binds_of : Outline → Binds
 binds_of o = record { from = o.from; to = o.to }
 
-abbrev cur_of : Outline → Cur
+abbrev cur_of : Outline → Next
 cur_of o = record { at = o.to; line = o.line }
 
 module _ (s : Bytes) (o : Outline) (l : Laid depth_limit s o) where
@@ -206,10 +206,15 @@ module _ (s work out : Bytes) (ask : (length s ≤ sheet_limit) × (length work 
 
 -- ## The whole call
 
-pub call-settled : (U : Settled) (work out out₁ : Bytes) (r : Result ℕ Refused) → Types U work out out₁ r → (w o : Bytes) → w ≡ zeros work → (is_err r ≡ true → o ≡ zeros out) → (is_err r ≡ false → o ≡ out₁)
-    → settled_as r w o ≡ U
-call-settled U work out out₁ (Ok n) p w o e f g = rw (e, g refl) p
-call-settled U work out out₁ (Err r) p w o e f g = rw (e, f refl) p
+-- it is refused, and the output cleared
+pub call-refused : (U : Settled) (work out out₁ : Bytes) (r : Result ℕ Refused) → Types U work out out₁ r → (w o : Bytes) → w ≡ zeros work → o ≡ zeros out → (b : Bool) → b ≡ is_err r → b ≡ true → settled_as r w o ≡ U
+call-refused U work out out₁ (Ok n) p w o e f b v t = absurd (let z : true ≡ false = sym t ∙ v in let y : ◌≡◌ {A = ℕ} 0 1 = cc in omega arith)
+call-refused U work out out₁ (Err r) p w o e f b v t = rw (e, f) p
+
+-- or not
+pub call-answered : (U : Settled) (work out out₁ : Bytes) (r : Result ℕ Refused) → Types U work out out₁ r → (w : Bytes) → w ≡ zeros work → (b : Bool) → b ≡ is_err r → b ≡ false → settled_as r w out₁ ≡ U
+call-answered U work out out₁ (Ok n) p w e b v t = rw e p
+call-answered U work out out₁ (Err r) p w e b v t = absurd (let z : false ≡ true = sym t ∙ v in let y : ◌≡◌ {A = ℕ} 0 1 = cc in omega arith)
 
 -- ## For callers
 

@@ -9,10 +9,7 @@ pub fn check_sheet(sheet: &[u8]) -> Result<(), Refused>
     ensures { checked_as result ≡ check_call sheet.now }
 {
     if sheet.len() > semantics::SHEET_LIMIT {
-        return Err(Refused {
-            why: Refusal::SheetTooLong,
-            place: 0,
-        });
+        return Err(Refusal::SheetTooLong.into());
     }
     hir::check_sheet(sheet, semantics::DEPTH_LIMIT)?;
     Ok(())

@@ -4,17 +4,18 @@
 mod checking;
 
 ghost use Rattle.std.specs.Prelude.{◌≡◌, ◌≤◌, length};
-ghost use Rattle.semantics.specs.Limits.{sheet_limit, work_size};
+ghost use Rattle.semantics.specs.Limits.{sheet_limit};
 ghost use Rattle.semantics.specs.Calls.{sheet_call};
 ghost use Rattle.typing.specs.Typed.{Types, settled_as};
 
 pub use checking::check_sheet;
-use infer::{Cur, Env, Sheet};
-use semantics::{Refusal, Refused};
+use hir::Next;
+use infer::{Env, Sheet};
+use semantics::{Refusal, Refused, WORK_SIZE};
 
 // The whole sheet read, and then its clauses typed.
-fn type_sheet(sheet: &[u8], work: &mut [u8], out: &mut [u8]) -> Result<usize, Refused>
-    requires { (length sheet.now ≤ sheet_limit) × (length work.old ≡ work_size) }
+fn type_sheet(sheet: &[u8], work: &mut [u8; WORK_SIZE], out: &mut [u8]) -> Result<usize, Refused>
+    requires { length sheet.now ≤ sheet_limit }
     ensures { Types (sheet_call sheet.now work.old out.old) work.old out.old out.new result }
 {
     let o = hir::check_sheet(sheet, semantics::DEPTH_LIMIT)?;
@@ -25,16 +26,13 @@ fn type_sheet(sheet: &[u8], work: &mut [u8], out: &mut [u8]) -> Result<usize, Re
             to: o.to,
         },
     };
-    let cur = Cur {
+    let cur = Next {
         at: o.to,
         line: o.line,
     };
     let len = infer::check_statement(read, cur, semantics::DEPTH_LIMIT, work, out)?;
     if len > out.len() {
-        return Err(Refused {
-            why: Refusal::OutputTooShort,
-            place: 0,
-        });
+        return Err(Refusal::OutputTooShort.into());
     }
     Ok(len)
 }
@@ -44,18 +42,12 @@ pub fn infer_types(sheet: &[u8], work: &mut [u8], out: &mut [u8]) -> Result<usiz
     ensures { settled_as result work.new out.new ≡ sheet_call sheet.now work.old out.old }
 {
     if sheet.len() > semantics::SHEET_LIMIT {
-        return Err(Refused {
-            why: Refusal::SheetTooLong,
-            place: 0,
-        });
+        return Err(Refusal::SheetTooLong.into());
     }
-    if work.len() != semantics::WORK_SIZE {
-        return Err(Refused {
-            why: Refusal::WrongSize,
-            place: 0,
-        });
-    }
-    let typed = type_sheet(sheet, work, out);
+    let Some(area) = work.as_mut_array::<WORK_SIZE>() else {
+        return Err(Refusal::WrongSize.into());
+    };
+    let typed = type_sheet(sheet, area, out);
     work.fill(0);
     if typed.is_err() {
         out.fill(0);

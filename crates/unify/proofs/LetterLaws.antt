@@ -2,11 +2,11 @@
 use mathlib.Core.Path.{◌≡◌, refl, sym, ◌∙◌, ap, ap₂}
 use mathlib.Core.List.{[], ◌∷◌}
 use mathlib.Core.Bool.{Bool, true, false, cond, ◌&&◌, false≢true, ◌||◌}
-use Prim.Native.Nat.{ℕ, ◌<◌}
+use Prim.Native.Nat.{ℕ, ◌-◌, ◌<◌}
 use native.Mathlib.Omega.{arith}
 use borrow.Author.Tests.{ne_eqb}
 use lib.Dec.{eqb}
-use lib.ListN.{length, get_or}
+use lib.ListN.{length, get_or, take, drop}
 use lib.Seq.{slice}
 use Rattle.semantics.specs.Codes.{any_letter, unknown_letter}
 use Rattle.semantics.specs.Bytes.{Bytes, same}
@@ -14,6 +14,7 @@ use Rattle.semantics.specs.Ty.{Base, t_any, t_null, t_bool, t_int, t_float, t_nu
 use Rattle.semantics.specs.Unify.{numbers, widening, apart, meeting}
 use Rattle.semantics.proofs.Order.{letter-inj, equal-refl}
 use Rattle.ty.specs.Parts.{TypeAt}
+use Rattle.text.proofs.Laws.{part_slice}
 use Rattle.unify.specs.Predicates.{numeric}
 use Rattle.ty.specs.Read.{kind_of}
 use Rattle.ty.proofs.Lines.{special, letter-away}
@@ -154,14 +155,17 @@ module _ {s : Bytes} {a ae b be : ℕ} {t u : Ty} (f : TypeAt s a ae t) (g : Typ
   unfolding equal
   same_lines = ap₂ same f.is g.is
 
-  module _ (p : eqb (get_or s a 0) any_letter ≡ false) (q : eqb (get_or s b 0) any_letter ≡ false) (v : eqb (get_or s a 0) unknown_letter ≡ false) (w : eqb (get_or s b 0) unknown_letter ≡ false) (r : Bool) (x : r ≡ same (slice a ae s) (slice b be s)) where
+  module _ (p : eqb (get_or s a 0) any_letter ≡ false) (q : eqb (get_or s b 0) any_letter ≡ false) (v : eqb (get_or s a 0) unknown_letter ≡ false) (w : eqb (get_or s b 0) unknown_letter ≡ false) (r : Bool) (x : r ≡ same (take (ae - a) (drop a s)) (take (be - b) (drop b s))) where
+    alike : r ≡ same (slice a ae s) (slice b be s)
+    alike = x ∙ ap₂ same (part_slice a ae s) (part_slice b be s)
+
     pub arm-equal : r ≡ true → Left ≡ arm_of t u
     unfolding arm_of letter
-    arm-equal e = let z : equal t u ≡ true = sym same_lines ∙ sym x ∙ e in rw (reads f t_any p, reads g t_any q, reads f t_unknown v, reads g t_unknown w, z, arm_of)
+    arm-equal e = let z : equal t u ≡ true = sym same_lines ∙ sym alike ∙ e in rw (reads f t_any p, reads g t_any q, reads f t_unknown v, reads g t_unknown w, z, arm_of)
 
     pub arm-unequal : r ≡ false → (n : Arm) → n ≡ arm_of_unequal (get_or s a 0) (get_or s b 0) → n ≡ arm_of t u
     unfolding arm_of letter
     arm-unequal e n h =
-        let z : equal t u ≡ false = sym same_lines ∙ sym x ∙ e in
+        let z : equal t u ≡ false = sym same_lines ∙ sym alike ∙ e in
         let k : n ≡ arm_of_unequal (kind_of t) (kind_of u) = h ∙ ap₂ arm_of_unequal (kind_at s a ae t f) (kind_at s b be u g) in
         rw (reads f t_any p, reads g t_any q, reads f t_unknown v, reads g t_unknown w, z, arm_of) (k ∙ sym (unequal-letters t u z))

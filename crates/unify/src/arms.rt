@@ -92,7 +92,9 @@ pub fn arm_of(work: &[u8], a: Span, b: Span) -> Arm
     if is_unknown(j) || is_unknown(k) {
         return Arm::AnyUnknown;
     }
-    if text::same_in(work, left, a.to, right, b.to) {
+    let left_end = a.to;
+    let right_end = b.to;
+    if text::same(&work[left..left_end], &work[right..right_end]) {
         return Arm::Left;
     }
     arm_of_unequal(j, k)

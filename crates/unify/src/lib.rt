@@ -1,4 +1,5 @@
-// Unification of type lines in a work area (unify.rs): operands below a mark, the answer from the mark on.
+// Unification of type lines in a work area (unify.rs): operands below a mark, the answer from the mark on. (Area and mark are no struct:
+// the recursion lends a shorter area each time, see `unify_part`.)
 #![tactic(auto)]
 
 mod arms;

@@ -27,6 +27,7 @@ pub fn keep_lone(s: &mut [u8], start: Merge, to: usize) -> Merge
     ensures { Lone s.old s.new start to result }
 {
     let mut m = start;
+    // (The slice is written in each turn: no iterator can hold it.)
     while let Some(side) = ty::next_name(s, m.p, m.q) {
         if side == Side::Both {
             return m;

@@ -1,5 +1,5 @@
-// What a type is by its letter: `Type::is_any`, `is_unknown`, `is_numeric` (ty.rs). They stand here and not in `ty`, since a call into
-// another crate is not inlined, and the arms ask for each pair of types.
+// What a type is by its letter: `Type::is_any`, `is_unknown`, `is_numeric` (ty.rs). Each is one comparison, and `numeric`
+// is a definition of this crate's specs: so they stand here and not in `ty`.
 ghost use Rattle.std.specs.Prelude.{◌≡◌, eqb};
 ghost use Rattle.semantics.specs.Codes.{any_letter, unknown_letter};
 ghost use Rattle.unify.specs.Predicates.{numeric};

@@ -2,12 +2,11 @@
 #![tactic(auto)]
 
 ghost use Rattle.std.specs.Prelude.{◌≡◌, length};
-ghost use Rattle.semantics.specs.Limits.{work_size};
 ghost use Rattle.semantics.specs.Calls.{unify_call};
 ghost use Rattle.unifying.specs.Call.{settled};
 ghost use Rattle.unifying.specs.Told.{refused_by, SomeAnswer, Tells, Settles};
 
-use semantics::{Refusal, Refused};
+use semantics::{Refusal, Refused, WORK_SIZE};
 use unify::{Span, UnifyError};
 
 // Why there is no type: two lines, of so many bytes, do not unify, and stand in the output one behind the other; or the call refuses.
@@ -52,8 +51,12 @@ fn deliver(
 }
 
 // The two lines at the front of the work area, unified. The output is still to be cleared where the call refuses.
-fn solve(a: &[u8], b: &[u8], work: &mut [u8], out: &mut [u8]) -> Result<usize, NotUnified>
-    requires { length work.old ≡ work_size }
+fn solve(
+    a: &[u8],
+    b: &[u8],
+    work: &mut [u8; WORK_SIZE],
+    out: &mut [u8],
+) -> Result<usize, NotUnified>
     ensures { Settles (unify_call a.now b.now work.old out.old)
         work.old out.old out.new result }
 {
@@ -79,17 +82,17 @@ fn solve(a: &[u8], b: &[u8], work: &mut [u8], out: &mut [u8]) -> Result<usize, N
 pub fn unify_types(a: &[u8], b: &[u8], work: &mut [u8], out: &mut [u8]) -> Result<usize, NotUnified>
     ensures { settled result work.new out.new ≡ unify_call a.now b.now work.old out.old }
 {
-    if work.len() != semantics::WORK_SIZE {
+    let Some(area) = work.as_mut_array::<WORK_SIZE>() else {
         return Err(refused(Refusal::WrongSize, 0));
-    }
-    let answer = solve(a, b, work, out);
-    text::clear(work);
+    };
+    let answer = solve(a, b, area, out);
+    work.fill(0);
     // Each arm is written out: behind an `if let` it is not known that the other answers are no refusals.
     match answer {
         Ok(_) => answer,
         Err(NotUnified::Mismatch { .. }) => answer,
         Err(NotUnified::Refused(_)) => {
-            text::clear(out);
+            out.fill(0);
             answer
         }
     }

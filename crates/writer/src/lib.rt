@@ -9,6 +9,7 @@ ghost use Rattle.writer.specs.Written.{Wrote, line_text};
 
 use text::LINE_END;
 
+// Each function that takes a writer says that its output keeps its name: across a call the check follows a lent output by that alone.
 #[derive(Drop)]
 pub struct Writer<'a> {
     pub out: &'a mut [u8],
@@ -62,16 +63,15 @@ impl<'a> Writer<'a> {
     {
         self.put(LINE_END);
     }
-}
 
-// One line, its head and its body behind what is filled.
-pub fn line(out: &mut [u8], fill: usize, head: &[u8], body: &[u8]) -> usize
-    requires { fill + length head.now + length body.now + 1 < 2 ^ 64 }
-    ensures { (result ≡ fill + length (line_text head.now body.now)) × (out.new ≡ sets out.old fill (line_text head.now body.now)) }
-{
-    let mut w = Writer::new(out, fill);
-    w.write(head);
-    w.write(body);
-    w.end_line();
-    w.fill
+    // Appends a line, its head and its body.
+    pub fn line(&mut self, head: &[u8], body: &[u8])
+        requires { self.old.fill + length head.now + length body.now + 1 < 2 ^ 64 }
+        ensures keeps { self.new.out.ghost_name ≡ self.old.out.ghost_name }
+        ensures wrote { Wrote (line_text head.now body.now) self.old self.new }
+    {
+        self.write(head);
+        self.write(body);
+        self.end_line();
+    }
 }

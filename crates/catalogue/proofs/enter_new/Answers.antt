@@ -18,7 +18,7 @@ overflow_sub-store c = let p = c.requires in let h = open-end _ _ p.form in let 
 pub returns-then-store-checked : goal.returns-then-store-checked
 returns-then-store-checked c =
     let w = within c.checked_add.result _ _ _ (present c.checked_add.result _ _ c.in_ok-number.ensures.value) c.checked_add.ensures in
-    no_room _ _ _ _ (omega arith) c.if-store-checked.true
+    rw c.into.ensures (no_room _ _ _ _ (omega arith) c.if-store-checked.true)
 
 pub add-requires : goal.add-requires
 add-requires c =

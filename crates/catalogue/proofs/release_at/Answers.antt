@@ -1,4 +1,5 @@
 use Rattle.std.proofs.Common.{rules, arith}
+use Rattle.catalogue.proofs.NumberLaws.{put_four}
 use Rattle.catalogue.proofs.StandLaws.{stands_here, stands-formed}
 use Rattle.catalogue.proofs.CallLaws.{last-use, use-less}
 use Rattle.catalogue.proofs.release_at.Goals as goal
@@ -15,11 +16,11 @@ overflow_sub-left c = let p = c.requires.stands in let f = (stands-formed _ _ _ 
 pub overflow_add-at-else-left-eq0 : goal.overflow_add-at-else-left-eq0
 overflow_add-at-else-left-eq0 c = let h = (stands_here _ _ _ _ c.requires.stands).inside in search rules
 
-pub write_u32-requires : goal.write_u32-requires
-write_u32-requires c = let h = (stands_here _ _ _ _ c.requires.stands).inside in omega arith
+pub write-requires : goal.write-requires
+write-requires c = let h = (stands_here _ _ _ _ c.requires.stands).inside in omega arith
 
 pub returns-then-left-eq0 : goal.returns-then-left-eq0
 returns-then-left-eq0 c = last-use _ _ _ _ c.read_u32-left.ensures c.if-left-eq0.true c.remove.ensures
 
 pub returns-else-left-eq0 : goal.returns-else-left-eq0
-returns-else-left-eq0 c = use-less _ _ _ _ c.read_u32-left.ensures c.if-left-eq0.false c.write_u32.ensures
+returns-else-left-eq0 c = use-less _ _ _ _ c.read_u32-left.ensures c.if-left-eq0.false (put_four _ _ _ _ _ c.to_le_bytes.ensures c.write.ensures)

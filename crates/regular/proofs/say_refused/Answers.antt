@@ -5,8 +5,8 @@ use Rattle.regular.proofs.say_refused.Goals as goal
 
 pub slice_bounds-line-end : goal.slice_bounds-line-end
 unfolding text
-slice_bounds-line-end g c = omega (arith, c.refused_line-n.ensures.short)
+slice_bounds-line-end g c = omega (arith, c.refused_line.ensures.line.short)
 
 pub slice_bounds-write_all-end : goal.slice_bounds-write_all-end
 unfolding text
-slice_bounds-write_all-end g c = sym (length-take-le _ _ (omega (arith, c.refused_line-n.ensures.short)))
+slice_bounds-write_all-end g c = sym (length-take-le _ _ (omega (arith, c.refused_line.ensures.line.short)))

@@ -6,4 +6,4 @@ pub returns : goal.returns
 returns c =
     let a = c.args in
     let t = c.infer_types in
-    told a.work.now a.out.now a.expected.now _ _ (c.of_length-answer.ensures _ _ ∙ t.ensures) t.auto.work t.auto.out c.is_stored.ensures
+    told a.work.now a.out.now a.want.text.now _ _ (c.of_length-answer.ensures _ _ ∙ t.ensures) t.auto.work t.auto.out c.is_stored.ensures

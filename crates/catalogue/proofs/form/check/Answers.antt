@@ -1,5 +1,7 @@
-use Rattle.std.proofs.Common.{sym, ◌∙◌}
+use Rattle.std.proofs.Common.{◌≡◌, sym, ◌∙◌}
 use Rattle.std.proofs.lemmas.Result.{err_from_is_err_and}
+use Rattle.catalogue.specs.Places.{is_distinct}
+use Rattle.catalogue.proofs.PlaceLaws.{moved}
 use Rattle.catalogue.proofs.StoreLaws.{other_length, no-zeros, no_end, end_read, read-laid, good-store, twice_there}
 use Rattle.catalogue.proofs.form.check.Goals as goal
 use Rattle.catalogue.proofs.form.check.Goals.{then-s-ne-STORE_SIZE-via-then-s-ne-STORE_SIZE, then-s-ne-STORE_SIZE-via-else-s-ne-STORE_SIZE+then-not-all_zeros}
@@ -16,17 +18,17 @@ returns-in_err-end c =
     let p = err_from_is_err_and c.from_residual.result c.from_residual.ensures.1 in
     rw p.1 (no_end _ _ c.if-s-ne-STORE_SIZE.false (sym c.all_zeros.ensures ∙ c.if-not-all_zeros.false) c.read_u16-last.ensures (sym c.in_err-end.was ∙ c.find_end.ensures))
 
-pub distinct-requires : goal.distinct-requires
-distinct-requires c =
+pub new-requires : goal.new-requires
+new-requires c =
     let h = c.if-s-ne-STORE_SIZE.false in
     let zs = sym c.all_zeros.ensures ∙ c.if-not-all_zeros.false in
     let l = c.read_u16-last.ensures in
     read-laid _ _ h zs l _ (end_read _ _ h zs l _ (sym c.in_ok-end.was ∙ c.find_end.ensures))
 
-pub returns-then-distinct : goal.returns-then-distinct
-returns-then-distinct c =
-    good-store _ _ c.if-s-ne-STORE_SIZE.false (sym c.all_zeros.ensures ∙ c.if-not-all_zeros.false) c.read_u16-last.ensures _ (sym c.in_ok-end.was ∙ c.find_end.ensures) _ c.distinct.ensures c.if-distinct.true
+pub returns-then-are_distinct : goal.returns-then-are_distinct
+returns-then-are_distinct c =
+    good-store _ _ c.if-s-ne-STORE_SIZE.false (sym c.all_zeros.ensures ∙ c.if-not-all_zeros.false) c.read_u16-last.ensures _ (sym c.in_ok-end.was ∙ c.find_end.ensures) c.are_distinct.result (moved (λ n ls. c.are_distinct.result ≡ is_distinct ls) c.new.result _ _ _ c.new.ensures c.are_distinct.ensures) c.if-are_distinct.true
 
-pub returns-else-distinct : goal.returns-else-distinct
-returns-else-distinct c =
-    twice_there _ _ c.if-s-ne-STORE_SIZE.false (sym c.all_zeros.ensures ∙ c.if-not-all_zeros.false) c.read_u16-last.ensures _ (sym c.in_ok-end.was ∙ c.find_end.ensures) _ c.distinct.ensures c.if-distinct.false
+pub returns-else-are_distinct : goal.returns-else-are_distinct
+returns-else-are_distinct c =
+    twice_there _ _ c.if-s-ne-STORE_SIZE.false (sym c.all_zeros.ensures ∙ c.if-not-all_zeros.false) c.read_u16-last.ensures _ (sym c.in_ok-end.was ∙ c.find_end.ensures) c.are_distinct.result (moved (λ n ls. c.are_distinct.result ≡ is_distinct ls) c.new.result _ _ _ c.new.ensures c.are_distinct.ensures) c.if-are_distinct.false

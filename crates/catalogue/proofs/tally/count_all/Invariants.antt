@@ -1,6 +1,5 @@
-use Rattle.std.proofs.Common.{◌≡◌, length}
 use Rattle.catalogue.proofs.SlotLaws.{Counts_on}
 use Rattle.catalogue.proofs.tally.count_all.Given as goal
 
 abbrev pub invariant-loop-entry : goal.invariant-loop-entry
-invariant-loop-entry l = (length l.counts ≡ 32768) × Counts_on l.s l.from l.end l.entry-iterator l.counts
+invariant-loop-entry l = Counts_on l.entries.store.now l.entries.at l.entries.end l.entry-iterator l.counts

@@ -1,14 +1,11 @@
-use Rattle.exprs.proofs.CallLaws.{args_none, args-accepted, args-refused, first_kind, room-one}
+use Rattle.exprs.proofs.CallLaws.{args_none, args-accepted, args-refused}
 use Rattle.exprs.proofs.call.check_builtin_args.Goals as goal
 
-pub returns-then-len-eq0 : goal.returns-then-len-eq0
-returns-then-len-eq0 c = args_none _ _ c.if-len-eq0.true
+pub returns-in_default-clause-adds : goal.returns-in_default-clause-adds
+returns-in_default-clause-adds c = args_none _ _ c.in_default.is
 
-pub returns-then-accepts : goal.returns-then-accepts
-returns-then-accepts c = args-accepted _ _ _ c.if-len-eq0.false c.param.ensures c.accepts.ensures c.if-accepts.true
+pub returns-else-not-accepts-clause-adds : goal.returns-else-not-accepts-clause-adds
+returns-else-not-accepts-clause-adds c = args-accepted _ _ _ c.in-Some.is c.param.ensures c.accepts.ensures c.if-not-accepts.false
 
-pub fault_call-requires : goal.fault_call-requires
-fault_call-requires c = (room-one c.requires.1, first_kind c.requires.0 c.if-len-eq0.false)
-
-pub returns : goal.returns
-returns c = args-refused _ _ _ c.if-len-eq0.false c.param.ensures c.accepts.ensures c.if-accepts.false c.fault_call.ensures
+pub returns-then-not-accepts-clause-adds : goal.returns-then-not-accepts-clause-adds
+returns-then-not-accepts-clause-adds c = args-refused _ _ _ c.in-Some.is c.param.ensures c.accepts.ensures c.if-not-accepts.true c.fault_call.ensures.adds

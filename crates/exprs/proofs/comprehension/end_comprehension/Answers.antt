@@ -14,4 +14,4 @@ pub fits-requires : goal.fits-requires
 fits-requires c = last_line c.requires
 
 pub returns : goal.returns
-returns c = λ t k. rw c.then_some.ensures (last-ends _ c.fits.ensures t k)
+returns c = λ t k r. rw c.then_some.ensures (last-ends _ c.fits.ensures t k)

@@ -1,7 +1,6 @@
 use mathlib.Core.Path.{◌∙◌, ap}
 use Rattle.std.specs.Prelude.{Err}
 use Rattle.unify.specs.declared.UnifyError.{UnifyError}
-use mathlib.Core.Logic.{inl}
 use native.Mathlib.Omega.{arith}
 use Rattle.exprs.proofs.ItemLaws.{copied-list, first-list, first-kept, running, ready, stood, headed, item-done, item-apart, item-large}
 use Rattle.exprs.proofs.list.list_item.Goals as goal
@@ -28,7 +27,7 @@ copy_in-requires c =
     let o = p.at.ordered in
     let i = p.at.inside in
     let l = p.low in
-    (omega arith, omega arith, inl (omega arith))
+    (omega arith, omega arith)
 
 pub overflow_sub-end-in-Ok : goal.overflow_sub-end-in-Ok
 overflow_sub-end-in-Ok c =

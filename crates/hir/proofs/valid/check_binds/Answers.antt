@@ -28,5 +28,5 @@ pub loop-line-preserved : goal.loop-line-preserved
 unfolding rank
 loop-line-preserved c =
     let m = c.in_ok-head.ensures in
-    rw (c.behind-next.ensures.0, c.from-var.ensures)
-    (bound-on _ _ _ _ _ _ c.loop-line.invariant c.in_ok-head.head (rw m at c.read_line-line.ensures) (rw m at (c.is_at.ensures.0 c.if-not-is_at.false)) (omega (arith, c.from-var.ensures)) _ c.behind-next.ensures.1)
+    rw (c.past-next.ensures.0, c.from-var.ensures)
+    (bound-on _ _ _ _ _ _ c.loop-line.invariant c.in_ok-head.head (rw m at c.read_line-line.ensures) (rw m at (c.is_at.ensures.0 c.if-not-is_at.false)) (omega (arith, c.from-var.ensures)) _ c.past-next.ensures.1)

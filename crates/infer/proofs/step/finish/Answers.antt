@@ -1,5 +1,4 @@
 use mathlib.Core.Path.{refl}
-use Rattle.text.proofs.Laws.{part_slice}
 use Rattle.infer.proofs.EndLaws.{some-rule, element-in, slice_in, list-in, call-in, operator-in, unary-in, case-in, member-in, last-in, by-rule, settled, quiet-constant, quiet-variable, quiet-element, quiet-slice, quiet-list, quiet-map, end-call, end-operator, end-unary, end-case, end-in, end-last}
 use Rattle.infer.proofs.step.finish.Goals as goal
 
@@ -12,14 +11,17 @@ end_slice-len-requires c = slice_in c.rule_of.ensures c.in-Slice.is c.requires
 pub end_list-len-requires : goal.end_list-len-requires
 end_list-len-requires c = list-in c.rule_of.ensures c.in-Listing.is c.requires
 
-pub end_call-requires : goal.end_call-requires
-end_call-requires c = call-in c.rule_of.ensures c.in-Call.is c.requires
+pub name_of-name-requires : goal.name_of-name-requires
+name_of-name-requires c = c.requires.at.head.within
+
+pub end_call-len-requires : goal.end_call-len-requires
+end_call-len-requires c = call-in c.rule_of.ensures c.in-Call.is c.requires
 
 pub infer_binop-requires : goal.infer_binop-requires
 infer_binop-requires c = operator-in c.rule_of.ensures c.in-Operator.is c.requires
 
-pub infer_unaryop-requires : goal.infer_unaryop-requires
-infer_unaryop-requires c = unary-in c.rule_of.ensures c.in-Unary.is c.requires
+pub infer_unaryop-len-requires : goal.infer_unaryop-len-requires
+infer_unaryop-len-requires c = unary-in c.rule_of.ensures c.in-Unary.is c.requires
 
 pub end_case-requires : goal.end_case-requires
 end_case-requires c = case-in c.rule_of.ensures c.in-Casing.is c.requires
@@ -33,38 +35,38 @@ end_comprehension-requires c = last-in c.rule_of.ensures c.in-Comprehension.is c
 pub unreachable-requires : goal.unreachable-requires
 unreachable-requires c = some-rule c.rule_of.ensures c.requires c.in-Silent.is
 
-pub returns-in-Constant : goal.returns-in-Constant
-returns-in-Constant c = settled (by-rule c.rule_of.ensures) (rw c.in-Constant.is refl) (quiet-constant c.in-Constant.is c.constant-len.ensures)
+pub returns-in-Constant-clause-ends : goal.returns-in-Constant-clause-ends
+returns-in-Constant-clause-ends c = settled (by-rule c.rule_of.ensures) (rw c.in-Constant.is refl) (quiet-constant c.in-Constant.is c.constant-len.ensures)
 
-pub returns-in-Variable : goal.returns-in-Variable
-returns-in-Variable c = settled (by-rule c.rule_of.ensures) (rw c.in-Variable.is refl) (quiet-variable c.in-Variable.is c.var_type-len.ensures)
+pub returns-in-Variable-clause-ends : goal.returns-in-Variable-clause-ends
+returns-in-Variable-clause-ends c = settled (by-rule c.rule_of.ensures) (rw c.in-Variable.is refl) (quiet-variable c.in-Variable.is c.var_type-len.ensures)
 
-pub returns-in-Element : goal.returns-in-Element
-returns-in-Element c = settled (by-rule c.rule_of.ensures) (rw c.in-Element.is refl) (quiet-element c.in-Element.is c.end_index-len.ensures)
+pub returns-in-Element-clause-ends : goal.returns-in-Element-clause-ends
+returns-in-Element-clause-ends c = settled (by-rule c.rule_of.ensures) (rw c.in-Element.is refl) (quiet-element c.in-Element.is c.end_index-len.ensures)
 
-pub returns-in-Slice : goal.returns-in-Slice
-returns-in-Slice c = settled (by-rule c.rule_of.ensures) (rw c.in-Slice.is refl) (quiet-slice c.in-Slice.is c.end_slice-len.ensures)
+pub returns-in-Slice-clause-ends : goal.returns-in-Slice-clause-ends
+returns-in-Slice-clause-ends c = settled (by-rule c.rule_of.ensures) (rw c.in-Slice.is refl) (quiet-slice c.in-Slice.is c.end_slice-len.ensures)
 
-pub returns-in-Listing : goal.returns-in-Listing
-returns-in-Listing c = settled (by-rule c.rule_of.ensures) (rw c.in-Listing.is refl) (quiet-list c.in-Listing.is c.end_list-len.ensures)
+pub returns-in-Listing-clause-ends : goal.returns-in-Listing-clause-ends
+returns-in-Listing-clause-ends c = settled (by-rule c.rule_of.ensures) (rw c.in-Listing.is refl) (quiet-list c.in-Listing.is c.end_list-len.ensures)
 
-pub returns-in-Mapping : goal.returns-in-Mapping
-returns-in-Mapping c = settled (by-rule c.rule_of.ensures) (rw c.in-Mapping.is refl) (quiet-map c.in-Mapping.is)
+pub returns-in-Mapping-clause-ends : goal.returns-in-Mapping-clause-ends
+returns-in-Mapping-clause-ends c = settled (by-rule c.rule_of.ensures) (rw c.in-Mapping.is refl) (quiet-map c.in-Mapping.is)
 
-pub returns-in-Call : goal.returns-in-Call
-returns-in-Call c = let a = c.args in end-call c.rule_of.ensures c.in-Call.is c.spelt-n.ensures (part_slice c.spelt-n.result a.h.stop a.sheet.text.now) c.end_call.ensures
+pub returns-in-Call-clause-ends : goal.returns-in-Call-clause-ends
+returns-in-Call-clause-ends c = end-call c.rule_of.ensures c.in-Call.is c.name_of-name.ensures c.end_call-len.ensures.ends
 
-pub returns-in-Operator : goal.returns-in-Operator
-returns-in-Operator c = end-operator c.rule_of.ensures c.in-Operator.is c.infer_binop.ensures
+pub returns-in-Operator-clause-ends : goal.returns-in-Operator-clause-ends
+returns-in-Operator-clause-ends c = end-operator c.rule_of.ensures c.in-Operator.is c.infer_binop.ensures.ends
 
-pub returns-in-Unary : goal.returns-in-Unary
-returns-in-Unary c = end-unary c.rule_of.ensures c.in-Unary.is c.infer_unaryop.ensures
+pub returns-in-Unary-clause-ends : goal.returns-in-Unary-clause-ends
+returns-in-Unary-clause-ends c = end-unary c.rule_of.ensures c.in-Unary.is c.infer_unaryop-len.ensures.ends
 
-pub returns-in-Casing : goal.returns-in-Casing
-returns-in-Casing c = end-case c.rule_of.ensures c.in-Casing.is c.end_case.ensures
+pub returns-in-Casing-clause-ends : goal.returns-in-Casing-clause-ends
+returns-in-Casing-clause-ends c = end-case c.rule_of.ensures c.in-Casing.is (λ k f a. c.end_case.ensures k f a _)
 
-pub returns-in-Membership : goal.returns-in-Membership
-returns-in-Membership c = end-in c.rule_of.ensures c.in-Membership.is c.check_in_list.ensures
+pub returns-in-Membership-clause-ends : goal.returns-in-Membership-clause-ends
+returns-in-Membership-clause-ends c = end-in c.rule_of.ensures c.in-Membership.is c.check_in_list.ensures.ends
 
-pub returns-in-Comprehension : goal.returns-in-Comprehension
-returns-in-Comprehension c = end-last c.rule_of.ensures c.in-Comprehension.is c.end_comprehension.ensures
+pub returns-in-Comprehension-clause-ends : goal.returns-in-Comprehension-clause-ends
+returns-in-Comprehension-clause-ends c = end-last c.rule_of.ensures c.in-Comprehension.is (λ u a. c.end_comprehension.ensures u a _)

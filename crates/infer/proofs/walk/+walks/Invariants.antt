@@ -18,11 +18,11 @@ decreases-infer_expr l = 4 * l.depth
 
 abbrev pub invariant-check_pattern-loop-todo : goal.invariant-check_pattern-loop-todo
 invariant-check_pattern-loop-todo l =
-    PatternInv l.sheet.text.now l.sheet.binds l.depth l.initial.work l.initial.out l.initial.c l.initial.y l.work l.out l.c l.y l.todo
+    PatternInv l.sheet.text.now l.sheet.binds l.depth l.initial.work l.initial.c l.initial.report l.work l.c l.report l.todo
 
 abbrev pub decreases-check_pattern-loop-todo : goal.decreases-check_pattern-loop-todo
 decreases-check_pattern-loop-todo l = length l.sheet.text.now + 2 - l.c.line.0
 
 abbrev pub invariant-infer_expr-loop-j : goal.invariant-infer_expr-loop-j
 invariant-infer_expr-loop-j l =
-    InferInv l.sheet.text.now l.sheet.binds l.h l.depth l.initial.work l.initial.out l.here l.initial.y l.work l.out l.c l.y l.st l.j
+    InferInv l.sheet.text.now l.sheet.binds l.h l.depth l.initial.work l.here l.initial.report l.work l.c l.report l.st l.j

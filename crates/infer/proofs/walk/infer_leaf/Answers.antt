@@ -2,17 +2,8 @@ use mathlib.Core.Path.{◌≡◌}
 use mathlib.Core.Bool.{false}
 use borrow.Author.Rules.{rules}
 use Rattle.line.specs.Words.{word_of}
-use Rattle.infer.proofs.WalkLeaf.{is_var, leaf-past, leaf-bound, leaf-wide, leaf-variable, leaf-constant}
+use Rattle.infer.proofs.WalkLeaf.{is_var, leaf-variable, leaf-constant}
 use Rattle.infer.proofs.walk.infer_leaf.Goals as goal
-
-pub past-behind-requires : goal.past-behind-requires
-past-behind-requires c = leaf-past c.requires
-
-pub var_type-len-requires : goal.var_type-len-requires
-var_type-len-requires c = (leaf-bound c.requires, leaf-wide c.requires)
-
-pub constant-len-requires : goal.constant-len-requires
-constant-len-requires c = leaf-wide c.requires
 
 pub returns-in-Var : goal.returns-in-Var
 returns-in-Var c = leaf-variable c.requires c.past-behind.ensures c.in-Var.is c.var_type-len.ensures

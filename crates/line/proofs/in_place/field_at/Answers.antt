@@ -19,3 +19,6 @@ returns-in-Letter c = rw c.in-Letter.is (c.letter_at.ensures _)
 
 pub returns-in-Float : goal.returns-in-Float
 returns-in-Float c = rw c.in-Float.is (c.float_at.ensures _)
+
+pub returns-in-Signed : goal.returns-in-Signed
+returns-in-Signed c = rw c.in-Signed.is (c.signed_at.ensures _)

@@ -1,8 +1,17 @@
-use Rattle.line.proofs.QuickLaws.{lead-on, lead-end}
+use Rattle.std.proofs.Common.{◌∙◌, sym, ap, ◌+◌, ◌-◌, rules, tests, drop, length, arith, length-drop}
+use Rattle.std.proofs.Math.Seq.{take_all}
+use Rattle.std.proofs.lemmas.Iterator.{YieldsList-from_slice}
+use Rattle.std.proofs.lemmas.Iterator.Search.{position_from_yields_List}
+use lib.Dec.{ltb}
+use Rattle.text.proofs.Laws.{part_slice}
+use Rattle.line.specs.Rows.{code_from}
+use Rattle.line.proofs.QuickFields.{letters-stood}
 use Rattle.line.proofs.quick.lead_long.Goals as goal
 
-pub returns-then-b-lt97 : goal.returns-then-b-lt97
-returns-then-b-lt97 c = lead-end _ _ _ _ c.loop-i.invariant c.loop-i-test.true
-
-pub loop-i-preserved : goal.loop-i-preserved
-loop-i-preserved c = rw c.from.ensures (lead-on _ _ _ _ c.loop-i.invariant c.loop-i-test.true c.if-b-lt97.false c.if-code-ge-FULL.false)
+pub returns : goal.returns
+returns c =
+    let a = c.args in
+    let rest = drop a.at a.sheet.now in
+    let whole = c.iter.ensures.rest ∙ take_all (length a.sheet.now - a.at) rest (omega (arith, length-drop a.at a.sheet.now)) in
+    let found = position_from_yields_List (λ x. ltb x 97) _ _ c.position.result c.position.ensures.ran (YieldsList-from_slice rest whole) (λ x b q k. search (rules, tests)) in
+    (letters-stood a.sheet.now a.at c.requires _ (sym c.in_ok-letters.was ∙ found), sym c.in_ok-code.ensures ∙ ap (code_from 1) (part_slice a.at (a.at + c.in_ok-letters.letters) a.sheet.now))

@@ -11,7 +11,7 @@ use Rattle.ty.proofs.Lent.{part-long, put-long}
 use Rattle.old.proofs.MakeLoop.{old-deep, making, flat-old, flat-makes, child-old, child-large, child-bounds, join-ready, step-long, step-on, step-large, too_large_lem, at_end, end-ready, finished}
 use Prim.Native.Nat.{ℕ}
 use Rattle.std.specs.Option.{option_map}
-use Rattle.old.specs.Read.{end_of}
+use Rattle.ty.specs.Read.{parts_end}
 use Rattle.old.proofs.making.+regular.Goals.{in_default-via-in-Some+in_default, in_default-via-in_default}
 use Rattle.old.proofs.making.+regular.Goals as goal
 
@@ -57,7 +57,7 @@ pub finish-requires : goal.finish-requires
 finish-requires t c = end-ready _ _ _ _ _ _ _ _ _ _ (c.loop-v.invariant.2 c.requires.0.ty c.requires.0.rest c.requires.0.is c.requires.0.within) (sym c.part_follows.ensures ∙ c.loop-v-test.false) (omega (arith, (c.loop-v.invariant.0 ∙ c.start-n.ensures.long), c.requires.1, c.loop-v.invariant.1))
 
 pub returns-in_err-len : goal.returns-in_err-len
-returns-in_err-len t c u rest d v = finished _ _ _ _ _ _ _ _ _ _ (c.loop-v.invariant.2 u rest d v) (sym c.part_follows.ensures ∙ c.loop-v-test.false) (omega (arith, (c.loop-v.invariant.0 ∙ c.start-n.ensures.long), c.requires.1, c.loop-v.invariant.1)) d _ _ (c.loop-v.invariant.0 ∙ c.start-n.ensures.long) _ c.finish.ensures _ (c.from_residual-in_err-len.ensures ∙ sym (ap (option_map (at_end (end_of (get_or c.args.s.now c.args.at 0) c.loop-v.q))) c.in_err-len.was))
+returns-in_err-len t c u rest d v = finished _ _ _ _ _ _ _ _ _ _ (c.loop-v.invariant.2 u rest d v) (sym c.part_follows.ensures ∙ c.loop-v-test.false) (omega (arith, (c.loop-v.invariant.0 ∙ c.start-n.ensures.long), c.requires.1, c.loop-v.invariant.1)) d _ _ (c.loop-v.invariant.0 ∙ c.start-n.ensures.long) _ c.finish.ensures _ (c.from_residual-in_err-len.ensures ∙ sym (ap (option_map (at_end (parts_end (get_or c.args.s.now c.args.at 0) c.loop-v.q))) c.in_err-len.was))
 
 pub returns : goal.returns
-returns t c u rest d v = finished _ _ _ _ _ _ _ _ _ _ (c.loop-v.invariant.2 u rest d v) (sym c.part_follows.ensures ∙ c.loop-v-test.false) (omega (arith, (c.loop-v.invariant.0 ∙ c.start-n.ensures.long), c.requires.1, c.loop-v.invariant.1)) d _ _ (c.loop-v.invariant.0 ∙ c.start-n.ensures.long) _ c.finish.ensures _ (ap (λ (e : ℕ). Some (at_end e c.in_ok-len.len)) c.end_of.ensures ∙ sym (ap (option_map (at_end _)) c.in_ok-len.was))
+returns t c u rest d v = finished _ _ _ _ _ _ _ _ _ _ (c.loop-v.invariant.2 u rest d v) (sym c.part_follows.ensures ∙ c.loop-v-test.false) (omega (arith, (c.loop-v.invariant.0 ∙ c.start-n.ensures.long), c.requires.1, c.loop-v.invariant.1)) d _ _ (c.loop-v.invariant.0 ∙ c.start-n.ensures.long) _ c.finish.ensures _ (ap (λ (e : ℕ). Some (at_end e c.in_ok-len.len)) c.parts_end.ensures ∙ sym (ap (option_map (at_end _)) c.in_ok-len.was))

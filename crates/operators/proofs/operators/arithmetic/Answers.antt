@@ -3,7 +3,6 @@ use Rattle.std.specs.Prelude.{Err}
 use Rattle.unify.specs.declared.UnifyError.{UnifyError}
 use Rattle.operators.proofs.Meets.{done-inside}
 use Rattle.operators.proofs.OpLaws.{pair-ready, computed-done, computed-apart, computed-large}
-use mathlib.Core.Logic.{inl}
 use native.Mathlib.Omega.{arith}
 use Rattle.operators.proofs.operators.arithmetic.Goals as goal
 
@@ -20,7 +19,7 @@ pub copy_in-requires : goal.copy_in-requires
 copy_in-requires c =
     let p = pair-ready c.requires.0 c.put_pair.ensures c.requires.1 c.numeric.ensures c.numeric-2.ensures in
     let (l, h) = done-inside p c.unify.ensures c.in-Ok.is in
-    (omega arith, omega arith, inl (omega arith))
+    (omega arith, omega arith)
 
 pub returns-in-Ok : goal.returns-in-Ok
 returns-in-Ok c = computed-done c.requires.0 c.put_pair.ensures c.requires.1 c.numeric.ensures c.numeric-2.ensures c.unify.ensures c.in-Ok.is c.copy_in.ensures

@@ -47,4 +47,5 @@ returns c =
     let a = c.args in
     let w = c.put.ensures in
     let low : l.i ≤ 0 = omega (arith, c.loop-i-test.false) in
-    (omega (arith, w.0, l.invariant.1, low), w.1 ∙ tens-end l.out l.at l.i l.m low ∙ l.invariant.2, omega (arith, w.0, l.invariant.1, low, shown-short a.n))
+    let is : c.digit_of-last.result.digit ≡ l.m = omega (arith, c.digit_of-last.ensures.0) in
+    (omega (arith, w.0, l.invariant.1, low), w.1 ∙ ap (λ (k : ℕ). set l.out l.at (48 + k)) is ∙ tens-end l.out l.at l.i l.m low ∙ l.invariant.2, omega (arith, w.0, l.invariant.1, low, shown-short a.n))

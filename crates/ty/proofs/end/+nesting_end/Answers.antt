@@ -3,7 +3,7 @@ use Rattle.std.proofs.Common.{rules}
 use Rattle.std.specs.Prelude.{Some}
 use native.Mathlib.Omega.{arith}
 use Rattle.ty.proofs.Fields.{type-two}
-use Rattle.ty.proofs.Loops.{nested, nested-none, nested-flat, nested-from, nested-bad, nested-on, nested-less, nested-list, nested-closed}
+use Rattle.ty.proofs.Loops.{nested, nested-none, nested-flat, nested-from, nested-bad, nested-on, nested-less, nested-end}
 use Rattle.ty.proofs.end.+nesting_end.Goals.{in_default-via-in-Some+in_default, in_default-via-in_default}
 use Rattle.ty.proofs.end.+nesting_end.Goals as goal
 
@@ -35,8 +35,5 @@ loop-v-smaller t c = omega (arith, nested-less _ _ _ _ _ _ c.loop-v.invariant (s
 pub loop-v-preserved : goal.loop-v-preserved
 loop-v-preserved t c = nested-on _ _ _ _ _ _ c.loop-v.invariant (sym c.part_follows.ensures ∙ c.loop-v-test.true) _ _ (rw c.value_at-v.ensures at c.nesting_end.ensures) c.in_ok-q.was
 
-pub returns-then-k-eq-LIST : goal.returns-then-k-eq-LIST
-returns-then-k-eq-LIST t c = nested-list _ _ _ _ _ _ c.loop-v.invariant (sym c.part_follows.ensures ∙ c.loop-v-test.false) c.if-k-eq-LIST.true
-
 pub returns : goal.returns
-returns t c = nested-closed _ _ _ _ _ _ c.loop-v.invariant (sym c.part_follows.ensures ∙ c.loop-v-test.false) c.if-k-eq-LIST.false
+returns t c = rw c.parts_end.ensures (nested-end _ _ _ _ _ _ c.loop-v.invariant (sym c.part_follows.ensures ∙ c.loop-v-test.false))

@@ -1,15 +1,6 @@
-use native.Mathlib.Omega.{arith}
-use mathlib.Core.Logic.{inr}
 use Rattle.ty.proofs.MergeLaws.{few-kept}
-use Rattle.ty.proofs.LabelLaws.{label-parts, start-inv, labels-made, turn-heads, turn-name, turn-taking, turn-less, turn-again}
+use Rattle.ty.proofs.LabelLaws.{start-inv, labels-made, turn-heads, turn-name, turn-taking, turn-less, turn-again}
 use Rattle.ty.proofs.label_sets.merge_labels.Goals as goal
-
-pub copy_in-requires : goal.copy_in-requires
-copy_in-requires c =
-    let a = c.args in
-    let l = c.requires.0 in
-    let (i, f, r) = label-parts a.s.now a.a l.end a.to l.labels l.at in
-    (omega (arith, i, l.at.below, c.requires.2), omega (arith, c.requires.2), inr (omega (arith, i, l.at.below)))
 
 pub loop-side-init : goal.loop-side-init
 loop-side-init c = let a = c.args in start-inv a.s.now _ a.a a.b a.to c.requires.2 c.copy_in.ensures c.requires.0 c.requires.1

@@ -1,4 +1,6 @@
 use native.Mathlib.Nat.{le_of_lt}
+use Rattle.semantics.specs.Bytes.{lex}
+use Rattle.ty.proofs.Lent.{lent_both}
 use Rattle.ty.proofs.NameLaws.{head_in, next-end, next-second, next-first, next-compared}
 use Rattle.ty.proofs.merging.next_name.Goals as goal
 
@@ -29,14 +31,14 @@ field_end-qe-requires c = let st = c in le_of_lt (head_in st.args.s.now st.args.
 pub returns-in-Less : goal.returns-in-Less
 returns-in-Less c o u h k =
     let st = c in
-    next-compared st.args.s.now st.args.p st.args.q _ _ o u _ _ h k c.if-s-p-eq-CLOSE.false c.if-s-q-eq-CLOSE-2.false c.field_end-pe.ensures c.field_end-qe.ensures c.compare_in.ensures c.in-Less.is
+    next-compared st.args.s.now st.args.p st.args.q _ _ o u _ _ h k c.if-s-p-eq-CLOSE.false c.if-s-q-eq-CLOSE-2.false c.field_end-pe.ensures c.field_end-qe.ensures (lent_both st.args.s.now st.args.p c.field_end-pe.result st.args.q c.field_end-qe.result lex c.compare.ensures) c.in-Less.is
 
 pub returns-in-Equal : goal.returns-in-Equal
 returns-in-Equal c o u h k =
     let st = c in
-    next-compared st.args.s.now st.args.p st.args.q _ _ o u _ _ h k c.if-s-p-eq-CLOSE.false c.if-s-q-eq-CLOSE-2.false c.field_end-pe.ensures c.field_end-qe.ensures c.compare_in.ensures c.in-Equal.is
+    next-compared st.args.s.now st.args.p st.args.q _ _ o u _ _ h k c.if-s-p-eq-CLOSE.false c.if-s-q-eq-CLOSE-2.false c.field_end-pe.ensures c.field_end-qe.ensures (lent_both st.args.s.now st.args.p c.field_end-pe.result st.args.q c.field_end-qe.result lex c.compare.ensures) c.in-Equal.is
 
 pub returns-in-Greater : goal.returns-in-Greater
 returns-in-Greater c o u h k =
     let st = c in
-    next-compared st.args.s.now st.args.p st.args.q _ _ o u _ _ h k c.if-s-p-eq-CLOSE.false c.if-s-q-eq-CLOSE-2.false c.field_end-pe.ensures c.field_end-qe.ensures c.compare_in.ensures c.in-Greater.is
+    next-compared st.args.s.now st.args.p st.args.q _ _ o u _ _ h k c.if-s-p-eq-CLOSE.false c.if-s-q-eq-CLOSE-2.false c.field_end-pe.ensures c.field_end-qe.ensures (lent_both st.args.s.now st.args.p c.field_end-pe.result st.args.q c.field_end-qe.result lex c.compare.ensures) c.in-Greater.is

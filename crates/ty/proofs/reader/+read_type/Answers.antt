@@ -4,8 +4,8 @@ use Rattle.std.specs.Prelude.{Some}
 use Rattle.ty.specs.Read.{Within}
 use Rattle.ty.proofs.Fields.{letter_at_lem}
 use Rattle.ty.proofs.Flat.{no-letter, flat-none, flat-base, flat-node, flat-rel}
-use Rattle.ty.proofs.Loops.{no-nesting, value-bounds, base-within, node-within, within-node, rel-within, within-rel, parts-start, some-seen, parts-bad, parts-refused, parts-places, parts-on, parts-few, end-list, end-closed}
-use Rattle.ty.proofs.reader.+read_type.Goals.{in_default-via-in-79+else-not-is_enough, in_default-via-in_default-1}
+use Rattle.ty.proofs.Loops.{no-nesting, value-bounds, base-within, node-within, within-node, rel-within, within-rel, parts-start, some-seen, parts-bad, parts-refused, parts-places, parts-on, parts-few, parts-read}
+use Rattle.ty.proofs.reader.+read_type.Goals.{else-k-eq-UNION-via-then-k-eq-UNION+else-not-is_enough, else-k-eq-UNION-via-else-k-eq-UNION}
 use Rattle.ty.proofs.reader.+read_type.Goals as goal
 
 pub returns-then-left-eq0 : goal.returns-then-left-eq0
@@ -48,15 +48,12 @@ loop-v-smaller g t c = omega (arith, parts-places _ _ _ _ _ _ _ _ c.loop-v.invar
 pub loop-v-preserved : goal.loop-v-preserved
 loop-v-preserved g t c = parts-on _ _ _ _ _ _ _ _ c.loop-v.invariant (sym c.part_follows.ensures ∙ c.loop-v-test.true) _ (rw c.in_ok-e.was at (rw c.value_at-v.ensures at c.read_type.ensures)) _ c.part_allowed.ensures c.if-not-part_allowed.false
 
-pub returns-in-74 : goal.returns-in-74
-returns-in-74 g t c = end-list _ _ _ _ _ _ _ _ c.loop-v.invariant (sym c.part_follows.ensures ∙ c.loop-v-test.false) c.in-74.is
+pub returns-then-not-is_enough : goal.returns-then-not-is_enough
+returns-then-not-is_enough g t c = parts-few _ _ _ _ _ _ _ _ c.loop-v.invariant (sym c.part_follows.ensures ∙ c.loop-v-test.false) c.if-k-eq-UNION.true (sym c.is_enough.ensures ∙ c.if-not-is_enough.true)
 
-pub returns-in-79 : goal.returns-in-79
-returns-in-79 g t c = parts-few _ _ _ _ _ _ _ _ c.loop-v.invariant (sym c.part_follows.ensures ∙ c.loop-v-test.false) c.in-79.is (sym c.is_enough.ensures ∙ c.if-not-is_enough.true)
-
-pub returns-in_default : goal.returns-in_default
-returns-in_default g t c =
-    elim c.in_default.branch [
-      | in_default-via-in-79+else-not-is_enough w ↦ end-closed _ _ _ _ _ _ _ _ c.loop-v.invariant (sym c.part_follows.ensures ∙ c.loop-v-test.false) (λ e. omega arith) (λ z. sym w.is_enough.ensures ∙ w.if-not-is_enough.false)
-      | in_default-via-in_default-1 w ↦ end-closed _ _ _ _ _ _ _ _ c.loop-v.invariant (sym c.part_follows.ensures ∙ c.loop-v-test.false) (λ e. omega arith) (λ z. absurd (omega arith))
-    ]
+pub returns : goal.returns
+returns g t c =
+    rw c.parts_end.ensures (parts-read _ _ _ _ _ _ _ _ c.loop-v.invariant (sym c.part_follows.ensures ∙ c.loop-v-test.false) (λ z. elim c.else-k-eq-UNION.branch [
+      | else-k-eq-UNION-via-then-k-eq-UNION+else-not-is_enough w ↦ sym w.is_enough.ensures ∙ w.if-not-is_enough.false
+      | else-k-eq-UNION-via-else-k-eq-UNION w ↦ absurd (w.if-k-eq-UNION.false z)
+    ]))

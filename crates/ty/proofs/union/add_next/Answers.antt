@@ -1,4 +1,3 @@
-use mathlib.Core.Logic.{inl}
 use native.Mathlib.Omega.{arith}
 use Rattle.ty.proofs.UnionLaws.{next-from, next-bounds, next-placing, next-slot, next-at, next-moved, next-kept, goes_at, goes-there}
 use Rattle.ty.proofs.union.add_next.Goals as goal
@@ -16,7 +15,7 @@ pub overflow_sub-rest : goal.overflow_sub-rest
 overflow_sub-rest c = (next-bounds c.requires c.type_end-m.ensures).1
 
 pub copy_in-requires : goal.copy_in-requires
-copy_in-requires c = let b = next-bounds c.requires c.type_end-m.ensures in (omega arith, omega arith, inl (omega arith))
+copy_in-requires c = let b = next-bounds c.requires c.type_end-m.ensures in (omega arith, omega arith)
 
 pub overflow_sub-result : goal.overflow_sub-result
 overflow_sub-result c = omega (arith, next-bounds c.requires c.type_end-m.ensures)

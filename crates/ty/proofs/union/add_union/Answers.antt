@@ -1,4 +1,3 @@
-use mathlib.Core.Logic.{inl}
 use native.Mathlib.Omega.{arith}
 use Rattle.ty.proofs.UnionEnds.{type-room, opened-room, opened-adding, opened-grew, plain-adding, plain-grew}
 use Rattle.ty.proofs.union.add_union.Goals as goal
@@ -10,7 +9,7 @@ pub overflow_sub-m-then-part-len-eq-UNION : goal.overflow_sub-m-then-part-len-eq
 overflow_sub-m-then-part-len-eq-UNION c = omega (arith, opened-room c.requires c.if-part-len-eq-UNION.true)
 
 pub copy_in-requires : goal.copy_in-requires
-copy_in-requires c = let b = opened-room c.requires c.if-part-len-eq-UNION.true in (omega arith, omega arith, inl (omega arith))
+copy_in-requires c = let b = opened-room c.requires c.if-part-len-eq-UNION.true in (omega arith, omega arith)
 
 pub add_members-requires : goal.add_members-requires
 add_members-requires c = opened-adding c.requires c.if-part-len-eq-UNION.true c.copy_in.ensures c.copy_in.auto.s

@@ -4,7 +4,7 @@ use Rattle.typing.proofs.CheckLaws.{long, accepted, refused-at}
 use Rattle.typing.proofs.checking.check_sheet.Goals as goal
 
 pub returns-then-sheet-gt-SHEET_LIMIT : goal.returns-then-sheet-gt-SHEET_LIMIT
-returns-then-sheet-gt-SHEET_LIMIT c = long _ c.if-sheet-gt-SHEET_LIMIT.true
+returns-then-sheet-gt-SHEET_LIMIT c = rw c.into.ensures (long _ c.if-sheet-gt-SHEET_LIMIT.true)
 
 pub returns-in_err-check_sheet : goal.returns-in_err-check_sheet
 returns-in_err-check_sheet c =

@@ -24,12 +24,12 @@ returns-then-is_unknown c =
           arm-unknown-second f g (sym c.if-is_any.ensures) (sym c.if-is_any-2.ensures) (sym w.if-is_unknown.ensures) (sym w.if-is_unknown-2.ensures)
     ]
 
-pub returns-then-same_in : goal.returns-then-same_in
-returns-then-same_in c =
-    λ t u f g. arm-equal f g (sym c.if-is_any.ensures) (sym c.if-is_any-2.ensures) (sym c.if-is_unknown.ensures) (sym c.if-is_unknown-2.ensures) _ c.same_in.ensures c.if-same_in.true
+pub returns-then-same : goal.returns-then-same
+returns-then-same c =
+    λ t u f g. arm-equal f g (sym c.if-is_any.ensures) (sym c.if-is_any-2.ensures) (sym c.if-is_unknown.ensures) (sym c.if-is_unknown-2.ensures) _ c.same.ensures c.if-same.true
 
 pub returns : goal.returns
 returns c =
     λ t u f g.
-    arm-unequal f g (sym c.if-is_any.ensures) (sym c.if-is_any-2.ensures) (sym c.if-is_unknown.ensures) (sym c.if-is_unknown-2.ensures) _ c.same_in.ensures c.if-same_in.false _
+    arm-unequal f g (sym c.if-is_any.ensures) (sym c.if-is_any-2.ensures) (sym c.if-is_unknown.ensures) (sym c.if-is_unknown-2.ensures) _ c.same.ensures c.if-same.false _
     c.arm_of_unequal.ensures

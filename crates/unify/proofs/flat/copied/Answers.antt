@@ -1,11 +1,10 @@
 use mathlib.Core.Path.{refl}
-use mathlib.Core.Logic.{inr}
 use native.Mathlib.Omega.{arith}
 use Rattle.unify.proofs.FlatLaws.{operand-room, copied-answer}
 use Rattle.unify.proofs.flat.copied.Goals as goal
 
 pub copy_in-requires : goal.copy_in-requires
-copy_in-requires c = let r = operand-room c.requires in (omega arith, omega arith, inr (omega arith))
+copy_in-requires c = let r = operand-room c.requires in (omega arith, omega arith)
 
 pub returns : goal.returns
 returns c = copied-answer c.requires refl c.copy_in.ensures

@@ -1,4 +1,3 @@
-use mathlib.Core.Logic.{inr}
 use mathlib.Core.Path.{refl, sym, ap, ◌∙◌}
 use native.Mathlib.Omega.{arith}
 use Rattle.std.specs.Prelude.{Err}
@@ -15,7 +14,7 @@ use Rattle.unify.proofs.parts.+unify.Goals.{meet_variants-then-work-first-eq-NUL
 -- ## Two lists
 
 pub unify_lists-copy_in-requires : goal.unify_lists-copy_in-requires
-unify_lists-copy_in-requires t c = let (i, j) = lists-room c.requires in (omega arith, omega arith, inr (omega arith))
+unify_lists-copy_in-requires t c = let (i, j) = lists-room c.requires in (omega arith, omega arith)
 
 pub unify_lists-element-requires : goal.unify_lists-element-requires
 unify_lists-element-requires t c = list-long c.requires.first
@@ -38,7 +37,7 @@ unify_lists-returns t c = lists-done c.requires c.copy_in.ensures c.element.ensu
 -- ## Two maps
 
 pub unify_maps-copy_in-requires : goal.unify_maps-copy_in-requires
-unify_maps-copy_in-requires t c = let (i, j, k) = maps-bounds c.requires in (omega arith, omega arith, inr (omega arith))
+unify_maps-copy_in-requires t c = let (i, j, k) = maps-bounds c.requires in (omega arith, omega arith)
 
 pub unify_maps-keep_lone-m-requires : goal.unify_maps-keep_lone-m-requires
 unify_maps-keep_lone-m-requires t c = maps-some c.requires c.copy_in.ensures
