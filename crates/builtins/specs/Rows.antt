@@ -38,6 +38,13 @@ return_of (Fixed t) = fixed (fixed_of t)
 return_of ListElement = list_element
 return_of ListSelf = list_self
 
+-- those of a number: the shapes in the table's order, and the last of them for any greater number
+unfoldable pub shape_at : ℕ → the.ArgShape
+shape_at n = get_or (s_any ∷ s_list ∷ s_string ∷ s_list_or_string ∷ s_graph_entity ∷ s_map ∷ []) n s_graph_entity_or_map
+
+unfoldable pub return_at : ℕ → the.ReturnShape
+return_at n = get_or (fixed (base t_int) ∷ fixed (t_list (base t_string)) ∷ fixed (t_list (base t_any)) ∷ list_element ∷ []) n list_self
+
 abbrev pub builtin_of : Builtin → the.Builtin
 builtin_of Id = builtin_id
 builtin_of Size = builtin_size

@@ -2,7 +2,7 @@
 ghost use Rattle.std.specs.Prelude.{◌≡◌};
 ghost use Rattle.semantics.specs.Builtins.{describe};
 ghost use Rattle.semantics.specs.Ty.{line};
-ghost use Rattle.builtins.specs.Rows.{shape_of, fixed_of, return_of, AcceptsKind, SomeFirst, ListAt, Resolved};
+ghost use Rattle.builtins.specs.Rows.{shape_of, shape_at, fixed_of, return_of, return_at, AcceptsKind, SomeFirst, ListAt, Resolved};
 
 use ty::{ANY, LIST, MAP, NODE, PATH, RELATIONSHIP, STRING, UNKNOWN};
 
@@ -15,6 +15,24 @@ pub enum ArgShape {
     GraphEntity,
     Map,
     GraphEntityOrMap,
+}
+
+// The shape of a number, in the order above; of any greater one the last.
+#[tactic(auto, unfolding(crate::specs::Rows::shape_at))]
+impl From<usize> for ArgShape {
+    ghost from_gives = { λ n shape. shape_of shape ≡ shape_at n };
+
+    fn from(number: usize) -> ArgShape {
+        match number {
+            0 => ArgShape::Any,
+            1 => ArgShape::List,
+            2 => ArgShape::String,
+            3 => ArgShape::ListOrString,
+            4 => ArgShape::GraphEntity,
+            5 => ArgShape::Map,
+            _ => ArgShape::GraphEntityOrMap,
+        }
+    }
 }
 
 impl ArgShape {
@@ -77,6 +95,22 @@ pub enum ReturnShape {
     Fixed(FixedTy),
     ListElement,
     ListSelf,
+}
+
+// What the number of a return shape says: the fixed types, the element, and of any greater number the list itself.
+#[tactic(auto, unfolding(crate::specs::Rows::return_at))]
+impl From<u8> for ReturnShape {
+    ghost from_gives = { λ n shape. return_of shape ≡ return_at n };
+
+    fn from(number: u8) -> ReturnShape {
+        match number {
+            0 => ReturnShape::Fixed(FixedTy::Int),
+            1 => ReturnShape::Fixed(FixedTy::ListString),
+            2 => ReturnShape::Fixed(FixedTy::ListAny),
+            3 => ReturnShape::ListElement,
+            _ => ReturnShape::ListSelf,
+        }
+    }
 }
 
 impl ReturnShape {

@@ -4,7 +4,7 @@ use mathlib.Core.List.{[], ◌∷◌}
 use mathlib.Core.Option.{some}
 use mathlib.Core.Bool.{Bool, true, false, cond, ◌&&◌, ◌||◌}
 use mathlib.Core.Logic.{◌⊎◌, ⊎_elim}
-use Prim.Native.Nat.{ℕ, ◌+◌, ◌-◌, ◌*◌, ◌%◌, ◌≤◌, ◌<◌}
+use Prim.Native.Nat.{ℕ, ◌+◌, ◌-◌, ◌*◌, ◌%◌, ◌≤◌, ◌<◌, min}
 use native.Mathlib.Decide.{dec_lt}
 use native.Mathlib.Omega.{arith}
 use lib.Dec.{leb, eqb, ltb}
@@ -12,6 +12,7 @@ use lib.ListN.{length, get_or, take, drop, length-drop}
 use lib.Seq.{slice, get_or-take, length-take-le, length-slice, take_all, get_or-drop}
 use borrow.Author.Tests.{le-leb, ltb-true, ltb-false, eqb-false, ne_eqb}
 use Rattle.std.specs.List.{position_or_len}
+use Rattle.std.proofs.Common.{length-take}
 use Rattle.std.proofs.lemmas.List.Sums.{fails_before_first}
 use Rattle.semantics.specs.Bytes.{Bytes, is_digit, digits, decimal, unhex}
 use Rattle.semantics.specs.Sheet.{wrong, number, is_dash, lettered, within}
@@ -275,14 +276,18 @@ module _ (s : Bytes) (at : ℕ) (h : at ≤ length s) where
       let z : at + (length s - at) ≡ length s = omega arith in
       record { from = h; within = omega arith; clean = rw z at (clean-part (length s - at) (λ k l. found-none is_end (drop at s) e k (omega (arith, l, length-drop at s)))) }
 
-  -- letters up to a byte that is none
-  pub letters-stood : (i : ℕ) → Some i ≡ cond (ltb (position_or_len (λ x. ltb x 97) (drop at s)) (length (drop at s))) (Some (position_or_len (λ x. ltb x 97) (drop at s))) None → Stood s at (at + i)
-  letters-stood i e =
-      let w = found-some (λ x. ltb x 97) (drop at s) i e in
+  -- letters up to a byte that is none, looked for among the next n bytes
+  pub letters-stood : (n i : ℕ) → Some i ≡ cond (ltb (position_or_len (λ x. ltb x 97) (take n (drop at s))) (length (take n (drop at s)))) (Some (position_or_len (λ x. ltb x 97) (take n (drop at s)))) None → Stood s at (at + i)
+  letters-stood n i e =
+      let w = found-some (λ x. ltb x 97) (take n (drop at s)) i e in
+      let near : length (take n (drop at s)) ≡ min n (length (drop at s)) = length-take n (drop at s) in
       record {
         from = omega arith;
-        inside = omega (arith, w.0, length-drop at s);
-        clean = clean-part i (λ k l. letter (get_or (drop at s) k 0) (ltb-false (get_or (drop at s) k 0) 97 (w.1 k l)));
+        inside = omega (arith, w.0, near, length-drop at s);
+        clean = clean-part i (λ k l.
+            let same : get_or (take n (drop at s)) k 0 ≡ get_or (drop at s) k 0 = get_or-take n (drop at s) k 0 (omega (arith, l, w.0, near)) in
+            let high : 97 ≤ get_or (take n (drop at s)) k 0 = ltb-false (get_or (take n (drop at s)) k 0) 97 (w.1 k l) in
+            letter (get_or (drop at s) k 0) (omega (arith, same, high)));
       }
     where
       letter : (c : ℕ) → 97 ≤ c → is_end c ≡ false

@@ -59,12 +59,16 @@ pub fn lead_of(sheet: &[u8], at: usize) -> Option<Lead>
     lead_long(sheet, at)
 }
 
-// The same for a word of any length.
+// The longest word's letters and the byte behind them.
+const LEAD_ROOM: usize = 6;
+
+// The same for a word of any length. (No further than a word can go: a line that is refused may be one long run of letters.)
 fn lead_long(sheet: &[u8], at: usize) -> Option<Lead>
     requires { at ≤ length sheet.now }
     ensures { LeadAs sheet.now at result }
 {
-    let letters = sheet[at..].iter().position(|b| *b < b'a')?;
+    let near = sheet.len().min(at + LEAD_ROOM);
+    let letters = sheet[at..near].iter().position(|b| *b < b'a')?;
     let end = at + letters;
     let code = word_code(&sheet[at..end])?;
     Some(Lead { code, end })

@@ -16,7 +16,7 @@ const LINE_ROOM: usize = 4098;
 fn say_refused(rt: &impl Print, refused: Refused) -> io::Result<()> {
     let mut line = [0u8; REFUSED_ROOM];
     let mut writer = Writer::new(&mut line, 0);
-    report::refused_line(&mut writer, refused);
+    report::refused_line(&mut writer, u64::from(refused.why), refused.place);
     let n = writer.fill;
     rt.write_all(&line[..n])
 }

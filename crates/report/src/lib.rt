@@ -4,7 +4,6 @@
 ghost use Rattle.std.specs.Prelude.{◌≡◌, [], ◌∷◌, ◌+◌, ◌<◌, ◌^◌, length};
 ghost use Rattle.semantics.specs.Bytes.{text};
 ghost use Rattle.semantics.specs.Ty.{Ty, line};
-ghost use Rattle.semantics.specs.Refusals.{number_of};
 ghost use Rattle.semantics.specs.Walk.{fault_2012, fault_5012};
 ghost use Rattle.semantics.specs.Builtins.{signature};
 ghost use Rattle.ty.specs.Read.{kind_of};
@@ -12,7 +11,6 @@ ghost use Rattle.builtins.specs.Rows.{builtin_of};
 ghost use Rattle.report.specs.Report.{Appends, Adds, fault_head, code_fault, code_of, HasRoom, OpenKind, NumbersLine, type_text, end_text};
 
 use builtins::Builtin;
-use semantics::Refused;
 use text::COMMA;
 use ty::{ANY, UNKNOWN};
 use writer::Writer;
@@ -149,11 +147,10 @@ pub fn numbers_line(writer: &mut Writer<'_>, head: &[u8], first: u64, second: u6
 
 // What a program prints of a refusal (RULES 7.9): at most 50 bytes.
 #[tactic(auto, unfolding(semantics::specs::Bytes::text))]
-pub fn refused_line(writer: &mut Writer<'_>, refused: Refused)
+pub fn refused_line(writer: &mut Writer<'_>, number: u64, place: u64)
     requires { writer.old.fill + 64 < 2 ^ 64 }
     ensures keeps { writer.new.out.ghost_name ≡ writer.old.out.ghost_name }
-    ensures line { NumbersLine (text "refused,") (number_of refused.why) refused.place writer.old.out.now writer.new.out.now writer.old.fill writer.new.fill }
+    ensures line { NumbersLine (text "refused,") number place writer.old.out.now writer.new.out.now writer.old.fill writer.new.fill }
 {
-    let number = u64::from(refused.why);
-    numbers_line(writer, b"refused,", number, refused.place);
+    numbers_line(writer, b"refused,", number, place);
 }

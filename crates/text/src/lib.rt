@@ -122,7 +122,7 @@ pub fn append(out: &mut [u8], fill: usize, t: &[u8]) -> usize
 }
 
 // A digit, or a to f; `is_ascii_hexdigit` takes A to F too.
-fn is_hex(b: u8) -> bool
+pub fn is_hex(b: u8) -> bool
     ensures { result ≡ is_hex b }
 {
     matches!(b, b'0'..=b'9' | b'a'..=b'f')
@@ -133,7 +133,7 @@ const BEFORE_SMALL_A: u8 = 87;
 
 // The value of a hexadecimal digit, and 0 for any other byte.
 #[tactic(auto, unfolding(crate::specs::Text::digit_of))]
-fn hex_value(b: u8) -> u8
+pub fn hex_value(b: u8) -> u8
     ensures { result ≡ digit_of b }
 {
     match b {
@@ -144,7 +144,7 @@ fn hex_value(b: u8) -> u8
 }
 
 // The byte whose two digits stand at `at`.
-fn hex_byte(hex: &[u8], at: usize) -> u8
+pub fn hex_byte(hex: &[u8], at: usize) -> u8
     requires { at + 1 < length hex.now }
     ensures { result ≡ digit_of (get_or hex.now at 0) * 16 + digit_of (get_or hex.now (at + 1) 0) }
 {

@@ -59,7 +59,10 @@ pub fn insert_entry(part: &mut [u8], len: usize, end: usize, p: usize, name: &[u
     text::slide_up(part, p, p + k, end - p);
     let c = text::append(part, p, name);
     part[c] = COMMA;
-    text::rotate(part, p + k, len + k, end + k);
+    // (Behind a label, which `old` inserts too, no value stands: then no bytes change places.)
+    if len < end {
+        text::rotate(part, p + k, len + k, end + k);
+    }
     Some(end + k)
 }
 

@@ -23,7 +23,7 @@ fn say_refused(out: &mut [u8], refused: Refused) -> usize
     ensures { NumbersLine (text "refused,") (number_of refused.why) refused.place out.old out.new 0 result }
 {
     let mut writer = Writer::new(out, 0);
-    report::refused_line(&mut writer, refused);
+    report::refused_line(&mut writer, u64::from(refused.why), refused.place);
     writer.fill
 }
 

@@ -21,7 +21,7 @@ pub fn say_refused(out: &mut [u8], refused: Refused) -> Said
     ensures { Refuses refused out.old out.new result }
 {
     let mut writer = Writer::new(out, 0);
-    report::refused_line(&mut writer, refused);
+    report::refused_line(&mut writer, u64::from(refused.why), refused.place);
     Said {
         refusal: Some(refused.why),
         length: writer.fill,

@@ -191,11 +191,18 @@ fn change<'a, R: Files + Print + Eprint>(
             what: beside,
             reason,
         })?;
-    let settled = settle(rt, file, request, store, out);
-    if !matches!(settled, Ok(true)) {
+    let is_new = match settle(rt, file, request, store, out) {
+        Ok(is_new) => is_new,
+        // Told before the new file goes: this order of writes is kept.
+        Err(failure) => {
+            failed(rt, failure);
+            false
+        }
+    };
+    if !is_new {
         let _ = fs::remove_file(rt, beside);
     }
-    settled.map(|_| ())
+    Ok(())
 }
 
 // Show and list.
